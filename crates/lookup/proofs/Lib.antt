@@ -1,0 +1,2 @@
+-- The laws that the proofs of lookup cite.
+pub mod Laws

@@ -1,0 +1,2 @@
+-- The definitions that the contracts of lookup cite.
+pub mod Lookup
