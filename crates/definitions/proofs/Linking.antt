@@ -1,0 +1,339 @@
+-- Assemblies. The pairs of basis rings that share a bond join exactly the rings that are linked, so each ring's leader is the first
+-- ring that it is linked with; an assembly's number counts the leaders before its own. Assumes nothing.
+use mathlib.Core.Path.{_≡_, refl, sym, ap, _∙_}
+use mathlib.Core.Bool.{Bool, true, not, cond}
+use mathlib.Core.List.{List, [], _∷_}
+use mathlib.Core.List.{List·Memᴰ as In}
+use mathlib.Core.Logic.{_↔_, _≢_, Iff·trans}
+use Prim.Native.Nat.{ℕ, zero, suc, _+_, _≤_, _<_}
+use native.Mathlib.Omega.{arith}
+use borrow.Author.Tests.{eqb-true, eqb-false, eq-eqb, ne-eqb, ltb-true, ltb-false, lt-ltb, le-ltb}
+use lib.Bits.{and-comm, and-self}
+use lib.Dec.{eqb, ltb}
+use lib.ListN.{length, getD, set, take, length-map, List·getD-map}
+use lib.Seq.{ext-getD, length-take-le, getD-take, getD-set-same, getD-set-other}
+use Rattle.sets.specs.Bits.{meet}
+use Rattle.definitions.specs.Search.{count, listed, gather, total}
+use Rattle.definitions.specs.Assembly.{share?, Linked, sharing, leaders, rank, assembliesOf, assemblyCount, ringsIn}
+use Rattle.definitions.specs.Assembly.Linked.{same, by as shares}
+use Rattle.definitions.proofs.Tests.{by, not-passed, not-failed}
+use Rattle.definitions.proofs.Lists.{gather-in, listed-in, count-zero, count-skip, count-take, count-lt, count-mono, count-find, count-none, count-all, length-listed, listed-ext, total-append, length-gather}
+use Rattle.definitions.proofs.Classes.{Joined, here, forth, back, Within, classes-length, classes-joined, classes-least}
+
+-- ---- linked rings
+
+-- what i shares with j, j shares with i
+pub share-sym : (rs : List ℕ) (i j : ℕ) → share? rs i j ≡ share? rs j i
+share-sym rs i j = ap (λ (x : ℕ). not (eqb x 0)) (and-comm (getD rs i 0) (getD rs j 0))
+
+-- being linked goes through others, and both ways
+pub linked-trans : {rs : List ℕ} {i j k : ℕ} → Linked rs i j → Linked rs j k → Linked rs i k
+linked-trans same q = q
+linked-trans (shares l h e p) q = shares l h e (linked-trans p q)
+
+pub linked-sym : {rs : List ℕ} {i j : ℕ} → Linked rs i j → Linked rs j i
+linked-sym same = same
+linked-sym {rs} (shares {i} {j} l h e p) = linked-trans (linked-sym p) (shares h l (share-sym rs j i ∙ e) same)
+
+-- the rings linked with i are in every part that holds i and holds with each ring those that share a bond with it
+pub linked-closed : {rs : List ℕ} (p : ℕ → Bool) → ((i j : ℕ) → i < length rs → j < length rs → p i ≡ true → share? rs i j ≡ true → p j ≡ true)
+    → {i j : ℕ} → Linked rs i j → p i ≡ true → p j ≡ true
+linked-closed p f same h = h
+linked-closed p f (shares {i} {j} l m e q) h = linked-closed p f q (f i j l m h e)
+
+-- ---- the pairs join the rings that are linked
+
+-- ring i with each ring before it that shares a bond
+abbrev pairs : List ℕ → ℕ → List (ℕ × ℕ)
+pairs rs i = listed i (share? rs i) (λ j. (i, j))
+
+-- a pair is of two rings of the list, the later one first, that share a bond
+sharing-found : (rs : List ℕ) (e : ℕ × ℕ) → In e (sharing rs) → (e .0 < length rs) × (e .1 < e .0) × (share? rs (e .0) (e .1) ≡ true)
+unfolding sharing
+sharing-found rs e m =
+    let (k, l, n) = gather-in (length rs) (pairs rs) e .0 m in
+    let (j, h, t, q) = listed-in k (share? rs k) (λ j. (k, j)) e .0 n in
+    rw (← q) (l, h, t)
+
+sharing-has : (rs : List ℕ) (i j : ℕ) → i < length rs → j < i → share? rs i j ≡ true → In (i, j) (sharing rs)
+unfolding sharing
+sharing-has rs i j l h t = gather-in (length rs) (pairs rs) (i, j) .1 (i, l, listed-in i (share? rs i) (λ j. (i, j)) (i, j) .1 (j, h, t, refl))
+
+-- so the pairs are exactly those
+pub sharing-in : (rs : List ℕ) (i j : ℕ) → In (i, j) (sharing rs) ↔ ((i < length rs) × (j < i) × (share? rs i j ≡ true))
+sharing-in rs i j = (sharing-found rs (i, j), λ (l, h, t). sharing-has rs i j l h t)
+
+-- and all pairs are of rings of the list
+sharing-within : (rs : List ℕ) → Within (length rs) (sharing rs)
+sharing-within rs e m = let (l, h, t) = sharing-found rs e m in (l, omega arith)
+
+-- what pairs join is linked: each pair is a step, either way
+joined-linked : {rs : List ℕ} {i j : ℕ} → Joined (sharing rs) i j → Linked rs i j
+joined-linked here = same
+joined-linked {rs} (forth {a} {b} m p) = let (l, h, t) = sharing-found rs (a, b) m in shares {i = a} {j = b} l (omega arith) t (joined-linked p)
+joined-linked {rs} (back {a} {b} m p) = let (l, h, t) = sharing-found rs (b, a) m in shares {i = a} {j = b} (omega arith) l (share-sym rs a b ∙ t) (joined-linked p)
+
+-- and what is linked is joined: a step to an earlier ring, to a later one, or to the ring itself
+linked-joined : {rs : List ℕ} {i j : ℕ} → Linked rs i j → Joined (sharing rs) i j
+linked-joined same = here
+linked-joined {rs} (shares {i} {j} {k} l h e p) =
+    let q = linked-joined p in
+    by (ltb j i) (λ t. forth (sharing-has rs i j l (ltb-true j i t) e) q)
+    (λ t. by (ltb i j) (λ u. back (sharing-has rs j i h (ltb-true i j u) (share-sym rs j i ∙ e)) q)
+    (λ u. let z : i ≡ j = omega (arith, ltb-false i j u, ltb-false j i t) in rw z q))
+
+-- rings are linked where the pairs join them
+pub joined-iff-linked : (rs : List ℕ) (i j : ℕ) → Joined (sharing rs) i j ↔ Linked rs i j
+joined-iff-linked rs i j = (joined-linked, linked-joined)
+
+-- ---- leaders
+
+-- the first ring that ring i is linked with
+abbrev pub leader : List ℕ → ℕ → ℕ
+leader rs i = getD (leaders rs) i 0
+
+-- each ring has a leader
+pub length-leaders : (rs : List ℕ) → length (leaders rs) ≡ length rs
+unfolding leaders
+length-leaders rs = classes-length (length rs) (sharing rs)
+
+-- rings have the same leader where they are linked, and nowhere else
+pub leaders-linked : (rs : List ℕ) (i j : ℕ) → i < length rs → j < length rs → (leader rs i ≡ leader rs j) ↔ Linked rs i j
+unfolding leaders
+leaders-linked rs i j l h = Iff·trans (classes-joined (length rs) (sharing rs) (sharing-within rs) i j l h) (joined-iff-linked rs i j)
+
+-- x is the first ring that i is linked with
+pub record Leader (rs : List ℕ) (i x : ℕ) : Type 0 where
+  pub linked : Linked rs i x
+  pub low : x ≤ i
+  pub own : leader rs x ≡ x
+  pub least : (j : ℕ) → j < length rs → Linked rs i j → x ≤ j
+
+-- a ring's leader is that ring
+pub leaders-first : (rs : List ℕ) (i : ℕ) → i < length rs → Leader rs i (leader rs i)
+unfolding leaders
+leaders-first rs i l =
+    let c = classes-least (length rs) (sharing rs) (sharing-within rs) i l in
+    record { linked = joined-linked (c .joined); low = c .low; own = c .own; least = λ j h p. c .least j h (linked-joined p) }
+
+-- ring i is the first of its assembly: it is its own leader
+abbrev pub first? : List ℕ → ℕ → Bool
+first? rs i = eqb (leader rs i) i
+
+-- so no ring before it is linked with it
+pub first-test : (rs : List ℕ) (i : ℕ) → i < length rs → (first? rs i ≡ true) ↔ ((j : ℕ) → j < i → Linked rs i j → ⊥)
+first-test rs i l =
+    let f = leaders-first rs i l in (
+      λ e j h p. omega (arith, f .least j (omega arith) p, eqb-true (leader rs i) i e),
+      λ none. not-failed (first? rs i) (λ e. none (leader rs i) (omega (arith, f .low, eqb-false (leader rs i) i e)) (f .linked)),
+    )
+
+-- ---- numbers
+
+-- the number of ring i's assembly
+abbrev pub number : List ℕ → ℕ → ℕ
+number rs i = getD (assembliesOf rs) i 0
+
+-- each ring has a number
+pub length-assemblies : (rs : List ℕ) → length (assembliesOf rs) ≡ length rs
+unfolding assembliesOf
+length-assemblies rs = length-map (leaders rs) (rank (leaders rs)) ∙ length-leaders rs
+
+-- it counts the first rings before the assembly's own
+pub number-counts : (rs : List ℕ) (i : ℕ) → number rs i ≡ count (leader rs i) (first? rs)
+unfolding assembliesOf rank count
+number-counts rs i = List·getD-map (rank (leaders rs)) (leaders rs) i 0
+
+-- the number of a first ring is how many first rings stand before it
+pub number-first : (rs : List ℕ) (i : ℕ) → first? rs i ≡ true → number rs i ≡ count i (first? rs)
+number-first rs i e = number-counts rs i ∙ ap (λ (x : ℕ). count x (first? rs)) (eqb-true (leader rs i) i e)
+
+-- there are as many assemblies as first rings
+pub assembly-count : (rs : List ℕ) → assemblyCount rs ≡ count (length rs) (first? rs)
+unfolding assemblyCount rank
+assembly-count rs = refl
+
+-- leaders with as many first rings before them are one
+rank-leader : (rs : List ℕ) (x y : ℕ) → leader rs x ≡ x → leader rs y ≡ y → count x (first? rs) ≡ count y (first? rs) → x ≡ y
+rank-leader rs x y p q e =
+    by (ltb x y) (λ t. absurd (omega (arith, count-lt (first? rs) y x (ltb-true x y t) (eq-eqb (leader rs x) x p))))
+    (λ t. by (ltb y x) (λ u. absurd (omega (arith, count-lt (first? rs) x y (ltb-true y x u) (eq-eqb (leader rs y) y q))))
+    (λ u. omega (arith, ltb-false x y t, ltb-false y x u)))
+
+-- rings have the same number where they are linked, and nowhere else
+pub linked-test : (rs : List ℕ) (i j : ℕ) → i < length rs → j < length rs → (getD (assembliesOf rs) i 0 ≡ getD (assembliesOf rs) j 0) ↔ Linked rs i j
+linked-test rs i j l h = (
+  λ e. leaders-linked rs i j l h .0 (rank-leader rs (leader rs i) (leader rs j) (leaders-first rs i l .own) (leaders-first rs j h .own)
+      (sym (number-counts rs i) ∙ e ∙ number-counts rs j)),
+  λ p. number-counts rs i ∙ ap (λ (x : ℕ). count x (first? rs)) (leaders-linked rs i j l h .1 p) ∙ sym (number-counts rs j),
+)
+
+-- every number is below the number of assemblies
+pub number-below : (rs : List ℕ) (i : ℕ) → i < length rs → number rs i < assemblyCount rs
+number-below rs i l =
+    let f = leaders-first rs i l in
+    omega (
+      arith,
+      number-counts rs i,
+      assembly-count rs,
+      count-lt (first? rs) (length rs) (leader rs i) (omega (arith, f .low)) (eq-eqb (leader rs (leader rs i)) (leader rs i) (f .own)),
+    )
+
+-- and each number below that is the number of a first ring
+pub number-occurs : (rs : List ℕ) (a : ℕ) → a < assemblyCount rs → (i : ℕ) × (i < length rs) × (first? rs i ≡ true) × (number rs i ≡ a)
+number-occurs rs a l =
+    let (i, h, t, e) = count-find (first? rs) (length rs) a (omega (arith, assembly-count rs)) in
+    (i, h, t, number-first rs i t ∙ e)
+
+-- a list that gives linked rings the same number, and a first ring the number of those before it, is the numbering
+pub assemblies-unique : (rs ns : List ℕ) → length ns ≡ length rs
+    → ((i j : ℕ) → i < length rs → j < i → Linked rs i j → getD ns i 0 ≡ getD ns j 0)
+    → ((i : ℕ) → i < length rs → first? rs i ≡ true → getD ns i 0 ≡ count i (first? rs))
+    → ns ≡ assembliesOf rs
+assemblies-unique rs ns size together fresh = ext-getD 0 ns (assembliesOf rs) (size ∙ sym (length-assemblies rs)) (λ i l. each i (omega arith))
+  where
+    to-leader : (i : ℕ) → i < length rs → Leader rs i (leader rs i) → getD ns i 0 ≡ getD ns (leader rs i) 0
+    to-leader i l f =
+        by (first? rs i) (λ e. ap (λ (x : ℕ). getD ns x 0) (sym (eqb-true (leader rs i) i e)))
+        (λ e. together i (leader rs i) l (omega (arith, f .low, eqb-false (leader rs i) i e)) (f .linked))
+
+    each : (i : ℕ) → i < length rs → getD ns i 0 ≡ number rs i
+    each i l =
+        let f = leaders-first rs i l in
+        to-leader i l f ∙ fresh (leader rs i) (omega (arith, f .low)) (eq-eqb (leader rs (leader rs i)) (leader rs i) (f .own)) ∙ sym (number-counts rs i)
+
+-- ---- rings that are numbered one by one, as they are met
+
+-- ns numbers the first k rings, and n assemblies have been met
+pub record Numbered (rs ns : List ℕ) (k n : ℕ) : Type 0 where
+  pub each : (i : ℕ) → i < k → getD ns i 0 ≡ number rs i
+  pub met : n ≡ count k (first? rs)
+
+-- before any ring is met
+pub numbered-none : (rs ns : List ℕ) → Numbered rs ns 0 0
+numbered-none rs ns = record { each = λ i l. absurd (omega arith); met = sym (count-zero (first? rs)) }
+
+-- one ring more, numbered x
+numbered-set : {rs ns : List ℕ} {k n : ℕ} (x m : ℕ) → Numbered rs ns k n → k < length ns → x ≡ number rs k → m ≡ count (k + 1) (first? rs) → Numbered rs (set ns k x) (k + 1) m
+numbered-set {rs} {ns} {k} x m h l e f =
+    record {
+      each = λ i u. by (eqb i k)
+          (λ t. rw (eqb-true i k t) (getD-set-same ns k x 0 l ∙ e))
+          (λ t. getD-set-other ns k i x 0 (eqb-false i k t) ∙ h .each i (omega (arith, eqb-false i k t)));
+      met = f;
+    }
+
+-- ring k is linked with ring j before it: it gets j's number
+pub numbered-old : {rs ns : List ℕ} {k n j : ℕ} → Numbered rs ns k n → k < length rs → k < length ns → j < k → Linked rs k j → Numbered rs (set ns k (getD ns j 0)) (k + 1) n
+numbered-old {rs} {ns} {k} {n} {j} h l m i p =
+    numbered-set (getD ns j 0) n h m (h .each j i ∙ sym (linked-test rs k j l (omega arith) .1 p))
+    (h .met ∙ sym (count-skip (first? rs) k refl (not-passed (first? rs k) (λ e. first-test rs k l .0 e j i p))))
+
+-- ring k is linked with none before it: it gets the next number
+pub numbered-new : {rs ns : List ℕ} {k n : ℕ} → Numbered rs ns k n → k < length rs → k < length ns → ((j : ℕ) → j < k → Linked rs k j → ⊥) → Numbered rs (set ns k n) (k + 1) (n + 1)
+numbered-new {rs} {ns} {k} {n} h l m none =
+    let e = first-test rs k l .1 none in
+    numbered-set n (n + 1) h m (h .met ∙ sym (number-first rs k e)) (omega (arith, h .met, count-take (first? rs) k refl e))
+
+-- all rings are numbered
+pub numbered-all : {rs ns : List ℕ} {k n : ℕ} → Numbered rs ns k n → k ≡ length rs → length rs ≤ length ns → (take (length rs) ns ≡ assembliesOf rs) × (n ≡ assemblyCount rs)
+numbered-all {rs} {ns} {k} {n} h e l =
+    let size = length-take-le (length rs) ns l in (
+      ext-getD 0 (take (length rs) ns) (assembliesOf rs) (size ∙ sym (length-assemblies rs))
+          (λ i u. getD-take (length rs) ns i 0 (omega arith) ∙ h .each i (omega arith)),
+      h .met ∙ ap (λ (x : ℕ). count x (first? rs)) e ∙ sym (assembly-count rs),
+    )
+
+-- ---- assemblies that are numbered one by one
+
+-- the first ring whose number is not below a has the number a
+pub number-next : (rs : List ℕ) (a i : ℕ) → i < length rs → ((j : ℕ) → j < i → number rs j < a) → a ≤ number rs i → number rs i ≡ a
+number-next rs a i l low h =
+    let (k, m, t, e) = number-occurs rs a (omega (arith, number-below rs i l)) in
+    let first : first? rs i ≡ true
+    = first-test rs i l .1 (λ j u p. absurd (omega (arith, low j u, linked-test rs i j l (omega arith) .1 p))) in
+    by (ltb k i) (λ u. absurd (omega (arith, low k (ltb-true k i u))))
+    (λ u. omega (arith, number-first rs i first, number-first rs k t, count-mono (first? rs) i k (ltb-false k i u)))
+
+-- where no ring is left, all assemblies are numbered
+pub number-all : (rs : List ℕ) (a : ℕ) → a ≤ assemblyCount rs → ((j : ℕ) → j < length rs → number rs j < a) → a ≡ assemblyCount rs
+number-all rs a h low =
+    by (ltb a (assemblyCount rs))
+    (λ u. let (k, m, t, e) = number-occurs rs a (ltb-true a (assemblyCount rs) u) in absurd (omega (arith, low k m)))
+    (λ u. omega (arith, ltb-false a (assemblyCount rs) u))
+
+-- ---- the rings of an assembly
+
+-- they are the rings with its number
+pub rings-in : (rs : List ℕ) (a s : ℕ) → In s (ringsIn rs a) ↔ ((i : ℕ) × (i < length rs) × (number rs i ≡ a) × (getD rs i 0 ≡ s))
+unfolding ringsIn
+rings-in rs a s =
+    let m = listed-in (length rs) (λ i. eqb (number rs i) a) (λ i. getD rs i 0) s in (
+      λ x. let (i, l, t, e) = m .0 x in (i, l, eqb-true (number rs i) a t, e),
+      λ (i, l, q, e). m .1 (i, l, eq-eqb (number rs i) a q, e),
+    )
+
+-- as many as have its number
+pub length-rings-in : (rs : List ℕ) (a : ℕ) → length (ringsIn rs a) ≡ count (length rs) (λ i. eqb (number rs i) a)
+unfolding ringsIn
+length-rings-in rs a = length-listed (length rs) (λ i. eqb (number rs i) a) (λ i. getD rs i 0)
+
+-- each ring is in its own assembly
+pub ring-in-own : (rs : List ℕ) (i : ℕ) → i < length rs → In (getD rs i 0) (ringsIn rs (number rs i))
+ring-in-own rs i l = rings-in rs (number rs i) (getD rs i 0) .1 (i, l, refl, refl)
+
+-- rings that share a bond are in one assembly
+pub sharing-in-one : (rs : List ℕ) (a b s t : ℕ) → In s (ringsIn rs a) → In t (ringsIn rs b) → meet s t ≡ true → a ≡ b
+sharing-in-one rs a b s t x y e =
+    let (i, l, p, q) = rings-in rs a s .0 x in
+    let (j, h, u, v) = rings-in rs b t .0 y in
+    sym p ∙ linked-test rs i j l h .1 (shares l h (rw (q, v) e) same) ∙ u
+
+-- so a ring that is not empty is in one assembly only
+pub ring-in-one : (rs : List ℕ) (a b s : ℕ) → s ≢ 0 → In s (ringsIn rs a) → In s (ringsIn rs b) → a ≡ b
+ring-in-one rs a b s nz x y = sharing-in-one rs a b s s x y (rw (and-self s, ne-eqb s 0 nz))
+
+-- no assembly is without rings, and no number but an assembly's has any
+pub rings-some : (rs : List ℕ) (a : ℕ) → a < assemblyCount rs → 0 < length (ringsIn rs a)
+rings-some rs a l =
+    let (i, h, t, e) = number-occurs rs a l in
+    omega (arith, length-rings-in rs a, count-lt (λ i. eqb (number rs i) a) (length rs) i h (eq-eqb (number rs i) a e))
+
+pub rings-none : (rs : List ℕ) (a : ℕ) → assemblyCount rs ≤ a → length (ringsIn rs a) ≡ 0
+rings-none rs a l =
+    length-rings-in rs a
+    ∙ count-none (λ i. eqb (number rs i) a) (length rs) (λ i h. ne-eqb (number rs i) a (λ e. omega (arith, number-below rs i h)))
+
+-- a test that says of each number what one of two others says, and never both, counts as many as the two
+count-two : (n : ℕ) (p q r : ℕ → Bool) → ((k : ℕ) → k < n → cond (r k) 1 0 ≡ cond (p k) 1 0 + cond (q k) 1 0) → count n r ≡ count n p + count n q
+unfolding count
+count-two zero p q r h = refl
+count-two (suc n) p q r h = omega (arith, count-two n p q r (λ k l. h k (omega arith)), h n (omega arith))
+
+-- below m + 1 is below m or m
+below-more : (x m : ℕ) → cond (ltb x (suc m)) 1 0 ≡ cond (ltb x m) 1 0 + cond (eqb x m) 1 0
+below-more x m =
+    by (ltb x m) (λ e. let l = ltb-true x m e in rw (e, lt-ltb x (suc m) (omega arith), ne-eqb x m (omega arith)))
+    (λ e. let l = ltb-false x m e in by (eqb x m)
+    (λ t. let q = eqb-true x m t in rw (e, t, lt-ltb x (suc m) (omega arith)))
+    (λ t. let q = eqb-false x m t in rw (e, t, le-ltb x (suc m) (omega arith))))
+
+-- numbers f i below m are each counted once, over all values below m
+count-values : (n m : ℕ) (f : ℕ → ℕ) → total (listed m (λ a. true) (λ a. count n (λ i. eqb (f i) a))) ≡ count n (λ i. ltb (f i) m)
+unfolding total listed
+count-values n zero f = sym (count-none (λ i. ltb (f i) 0) n (λ i l. le-ltb (f i) 0 (omega arith)))
+count-values n (suc m) f =
+    total-append (listed m (λ a. true) (λ a. count n (λ i. eqb (f i) a))) (count n (λ i. eqb (f i) m) ∷ [])
+    ∙ omega (arith, count-values n m f, count-two n (λ i. ltb (f i) m) (λ i. eqb (f i) m) (λ i. ltb (f i) (suc m)) (λ i l. below-more (f i) m))
+
+-- the assemblies hold all rings
+pub rings-total : (rs : List ℕ) → total (listed (assemblyCount rs) (λ a. true) (λ a. length (ringsIn rs a))) ≡ length rs
+rings-total rs =
+    let m = assemblyCount rs in
+    ap total (listed-ext m (λ a. true) (λ a. true) (λ a. length (ringsIn rs a)) (λ a. count (length rs) (λ i. eqb (number rs i) a)) (λ a l. refl) (λ a l e. length-rings-in rs a))
+    ∙ count-values (length rs) m (number rs)
+    ∙ count-all (λ i. ltb (number rs i) m) (length rs) (λ i l. lt-ltb (number rs i) m (number-below rs i l))
+
+-- one assembly after another, they are as many as the rings
+pub length-assembled : (rs : List ℕ) → length (gather (assemblyCount rs) (ringsIn rs)) ≡ length rs
+length-assembled rs = length-gather (assemblyCount rs) (ringsIn rs) ∙ rings-total rs

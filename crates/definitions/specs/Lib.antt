@@ -1,0 +1,12 @@
+-- What a reader must believe: the table, the definitions, the answers, the label and the program's text, from the bottom up.
+pub mod Search
+pub mod Table
+pub mod Ring
+pub mod Basis
+pub mod Assembly
+pub mod AllRings
+pub mod Smallest
+pub mod Reduced
+pub mod Label
+pub mod Answer
+pub mod Ringline

@@ -1,0 +1,36 @@
+-- "Smallest basis: go through the list of all rings; take each that is not a sum of rings already taken. Listed as taken."
+-- "Sum of sets: exclusive or (000)."
+-- Assumes nothing.
+use mathlib.Core.Path.{_≡_}
+use mathlib.Core.Bool.{Bool, true, false, _||_}
+use mathlib.Core.List.{List, [], _∷_}
+use Prim.Native.Nat.{ℕ}
+use lib.ListN.{length}
+use lib.Bits.{bitXor}
+use lib.Dec.{eqb}
+use Rattle.definitions.specs.Table.{Table}
+use Rattle.definitions.specs.AllRings.{allRings}
+
+-- the sum of the sets that a list of choices picks
+unfoldable pub chosen : List Bool → List ℕ → ℕ
+chosen cs [] = 0
+chosen [] (v ∷ vs) = 0
+chosen (true ∷ cs) (v ∷ vs) = bitXor v (chosen cs vs)
+chosen (false ∷ cs) (v ∷ vs) = chosen cs vs
+
+-- x is a sum of some of the sets vs
+abbrev pub SumOf : List ℕ → ℕ → Type 0
+SumOf vs x = (cs : List Bool) × (length cs ≡ length vs) × (chosen cs vs ≡ x)
+
+-- the same as a test: without the first of them, or with it
+unfoldable pub sum? : List ℕ → ℕ → Bool
+sum? [] x = eqb x 0
+sum? (v ∷ vs) x = sum? vs x || sum? vs (bitXor v x)
+
+-- what is taken of a list, where some were taken already
+unfoldable pub taking : List ℕ → List ℕ → List ℕ
+taking taken [] = []
+taking taken (r ∷ rs) = elim (sum? taken r) [ true ↦ taking taken rs | false ↦ r ∷ taking (r ∷ taken) rs ]
+
+unfoldable pub smallestBasis : Table → List ℕ
+smallestBasis M = taking [] (allRings M)
