@@ -3,12 +3,15 @@
 -- Assumes nothing.
 use mathlib.Core.Path.{_≡_}
 use mathlib.Core.Bool.{Bool, true, false, _||_}
-use mathlib.Core.List.{List, [], _∷_}
-use Prim.Native.Nat.{ℕ}
+use mathlib.Core.List.{List, [], _∷_, _++_, map, List·Memᴰ as In}
+use Prim.Native.Nat.{ℕ, _≤_}
 use lib.ListN.{length}
 use lib.Bits.{bitXor}
 use lib.Dec.{eqb}
+use Rattle.sets.specs.Bits.{size}
+use Rattle.definitions.specs.Search.{total}
 use Rattle.definitions.specs.Table.{Table}
+use Rattle.definitions.specs.Ring.{Ring}
 use Rattle.definitions.specs.AllRings.{allRings}
 
 -- the sum of the sets that a list of choices picks
@@ -34,3 +37,20 @@ taking taken (r ∷ rs) = elim (sum? taken r) [ true ↦ taking taken rs | false
 
 unfoldable pub smallestBasis : Table → List ℕ
 smallestBasis M = taking [] (allRings M)
+
+-- ---- what is promised of a smallest basis
+
+-- "none a sum of others"
+abbrev pub NoneOfOthers : List ℕ → Type 0
+NoneOfOthers vs = (before : List ℕ) (x : ℕ) (after : List ℕ) → before ++ x ∷ after ≡ vs → ¬ SumOf (before ++ after) x
+
+-- "rings, none a sum of others, from which every ring can be summed"
+pub record RingBasis (M : Table) (bs : List ℕ) : Type 0 where
+  pub rings : (s : ℕ) → In s bs → Ring M s
+  pub none-of-others : NoneOfOthers bs
+  pub span-all : (s : ℕ) → Ring M s → SumOf bs s
+
+-- "and no such set has fewer bonds in total"
+pub record SmallestBasis (M : Table) (bs : List ℕ) : Type 0 where
+  pub basis : RingBasis M bs
+  pub least : (cs : List ℕ) → RingBasis M cs → total (map size bs) ≤ total (map size cs)

@@ -1,0 +1,113 @@
+-- The rows of an accepted table: its bytes fit the array and the sets, each turn over a bond adds it to the rows of its two atoms, and
+-- no bond meets an atom from the count on. Assumes nothing.
+use mathlib.Core.Path.{_≡_, refl, sym, ap, _∙_}
+use mathlib.Core.Bool.{Bool, true, false, _&&_, _||_, cond, or-true}
+use mathlib.Core.List.{List}
+use Prim.Native.Nat.{ℕ, _+_, _*_, _/_, _%_, _≤_, _<_}
+use native.Mathlib.Nat.{le-antisymm}
+use native.Mathlib.Omega.{arith}
+use lib.ListN.{length, getD, set, length-set}
+use lib.Seq.{getD-set-same, getD-set-other}
+use lib.Dec.{eqb, ltb}
+use borrow.Author.Tests.{eqb-true, eqb-false, ne-eqb, ltb-true}
+use Rattle.sets.specs.Bits.{has, with, put}
+use Rattle.sets.specs.Bond.{bits, room}
+use Rattle.sets.specs.declared.bond.BondSet.{BondSet}
+use Rattle.sets.proofs.Machine.{put-below}
+use Rattle.sets.proofs.Laws.{has-with, empty}
+use Rattle.sets.proofs.Size.{with-same}
+use Rattle.definitions.specs.Search.{setOf}
+use Rattle.definitions.specs.Table.{Table, bonds, tail, head, meets?, maxAtoms, refusal}
+use Rattle.definitions.proofs.Tests.{by, eqb-self}
+use Rattle.definitions.proofs.Lists.{has-setOf, setOf-skip, setOf-take}
+use Rattle.definitions.proofs.Refusals.{Valid, accepted}
+use Rattle.table.specs.Ends.{bondsAlone, Fitting}
+use Rattle.table.specs.Row.{rowOf, none}
+
+-- an accepted table has at most 64 bonds, each between atoms below 64
+pub valid-fitting : {M : Table} → Valid M → Fitting (M .bytes)
+valid-fitting {M} v = record { few = v .few-bonds; ends = ends }
+  where
+    ends : (i : ℕ) → i < length (M .bytes) → getD (M .bytes) i 0 < maxAtoms
+    ends i h =
+        let at = v .inside (i / 2) (omega (arith, v .even)) in
+        by (eqb (i % 2) 0)
+        (λ e. let q : 2 * (i / 2) ≡ i = omega (arith, eqb-true (i % 2) 0 e) in omega (arith, v .few-atoms, at .0, ap (λ (j : ℕ). getD (M .bytes) j 0) q))
+        (λ e. let q : 2 * (i / 2) + 1 ≡ i = omega (arith, eqb-false (i % 2) 0 e) in omega (arith, v .few-atoms, at .1, ap (λ (j : ℕ). getD (M .bytes) j 0) q))
+
+-- the same of a table that the check accepts
+pub accepted-fitting : (M : Table) → refusal M ≡ 0 → Fitting (M .bytes)
+accepted-fitting M e = valid-fitting (accepted M .0 e)
+
+-- ---- what a row is
+
+-- bond k is in row a exactly where it is a bond that meets atom a
+pub has-row : (M : Table) (a k : ℕ) → has (rowOf M a) k ≡ ltb k (bonds M) && meets? M a k
+has-row M a k = has-setOf (bonds M) (meets? M a) k
+
+-- the rows from the atom count on are empty
+pub row-outside : {M : Table} → Valid M → (a : ℕ) → M .atoms ≤ a → rowOf M a ≡ 0
+row-outside {M} v a h =
+    empty (rowOf M a) (λ k.
+    has-row M a k
+    ∙ by (ltb k (bonds M))
+    (λ e. rw (e, ne-eqb (tail M k) a (omega (arith, v .inside k (ltb-true k _ e))), ne-eqb (head M k) a (omega (arith, v .inside k (ltb-true k _ e)))))
+    (λ e. rw e))
+
+-- ---- the rows in an array, by the bonds below k
+
+-- each row holds the bonds below k that meet its atom
+pub record Rowed (bs : List ℕ) (rows : List BondSet) (k : ℕ) : Type 0 where
+  pub within : k ≤ length bs / 2
+  pub long : length rows ≡ maxAtoms
+  pub row : (a : ℕ) → a < maxAtoms → bits (getD rows a none) ≡ setOf k (meets? (bondsAlone bs) a)
+
+-- before the first bond the rows are empty
+pub rowed-none : (bs : List ℕ) (rows : List BondSet) → length rows ≡ maxAtoms → ((a : ℕ) → a < maxAtoms → getD rows a none ≡ none) → Rowed bs rows 0
+unfolding setOf
+rowed-none bs rows long empty = record { within = omega arith; long = long; row = λ a h. ap bits (empty a h) }
+
+-- after the last bond each row holds all bonds that meet its atom
+pub rowed-all : {bs : List ℕ} {rows : List BondSet} {k : ℕ} → Rowed bs rows k → length bs / 2 ≤ k → (a : ℕ) → a < maxAtoms → bits (getD rows a none) ≡ rowOf (bondsAlone bs) a
+rowed-all {bs} t l a h = t .row a h ∙ ap (λ (i : ℕ). setOf i (meets? (bondsAlone bs) a)) (le-antisymm (t .within) l)
+
+-- a row and bond k, where bond k is added
+abbrev and-bond : ℕ → ℕ → Bool → ℕ
+and-bond k s added = cond added (with s k) s
+
+-- a bond that is added by both ends is added once
+and-bond-twice : (k s : ℕ) (p q : Bool) → and-bond k (and-bond k s p) q ≡ and-bond k s (p || q)
+and-bond-twice k s true true = with-same (with s k) k (has-with s k k ∙ rw (eqb-self k) (or-true (has s k)))
+and-bond-twice k s true false = refl
+and-bond-twice k s false q = refl
+
+-- the set of the numbers that pass, with one number more
+setOf-more : (p : ℕ → Bool) (k : ℕ) → and-bond k (setOf k p) (p k) ≡ setOf (k + 1) p
+setOf-more p k = by (p k) (λ e. rw e (sym (setOf-take p k (sym e) refl))) (λ e. rw e (sym (setOf-skip p k (sym e) refl)))
+
+-- bond k is added to the row of i, as x
+added : (rows : List BondSet) (k i : ℕ) (x : BondSet) → k < room → i < length rows → bits x ≡ put room (bits (getD rows i none)) k
+    → (a : ℕ) → bits (getD (set rows i x) a none) ≡ and-bond k (bits (getD rows a none)) (eqb i a)
+added rows k i x below inside e a =
+    by (eqb i a)
+    (λ t. rw (t, ← eqb-true i a t, getD-set-same rows i x none inside) (e ∙ put-below room (bits (getD rows i none)) k below))
+    (λ t. rw (t, getD-set-other rows i a x none (λ q. eqb-false i a t (sym q))))
+
+-- bond k is added to the row of i, as x, and then to that of j, as y
+module _ {bs : List ℕ} {rows : List BondSet} {k : ℕ} (t : Rowed bs rows k) (f : Fitting bs) (l : k < length bs / 2)
+    {i j : ℕ} {x y : BondSet} (ei : i ≡ getD bs (2 * k) 0) (ej : j ≡ getD bs (2 * k + 1) 0) (hi : i < maxAtoms) (hj : j < maxAtoms)
+    (ex : bits x ≡ put room (bits (getD rows i none)) k) (ey : bits y ≡ put room (bits (getD (set rows i x) j none)) k) where
+  -- a row changes where it is that of one of the two
+  both : (a : ℕ) → bits (getD (set (set rows i x) j y) a none) ≡ and-bond k (bits (getD rows a none)) (eqb i a || eqb j a)
+  both a =
+      added (set rows i x) k j y (omega (arith, f .few)) (simp length-set (omega (arith, t .long))) ey a
+      ∙ ap (λ (s : ℕ). and-bond k s (eqb j a)) (added rows k i x (omega (arith, f .few)) (omega (arith, t .long)) ex a)
+      ∙ and-bond-twice k (bits (getD rows a none)) (eqb i a) (eqb j a)
+
+  -- so each row holds the bonds up to k that meet its atom
+  pub rowed-more : Rowed bs (set (set rows i x) j y) (k + 1)
+  rowed-more = record {
+    within = omega arith;
+    long = simp length-set (t .long);
+    row = λ a h. both a ∙ rw (t .row a h, ei, ej) (setOf-more (meets? (bondsAlone bs) a) k);
+  }

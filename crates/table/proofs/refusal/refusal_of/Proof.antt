@@ -1,0 +1,70 @@
+-- At each return the tests made so far have failed but the last: 1 to 3 are tests on numbers, and the laws of `Tried` tell the others.
+-- Assumes nothing.
+use mathlib.Core.Path.{sym}
+use mathlib.Core.Logic.{inl, inr}
+use native.Mathlib.Omega.{arith}
+use borrow.Author.Needs.{needs}
+use Rattle.definitions.specs.Table.{seenBefore?}
+use Rattle.definitions.proofs.Refusals.{refused-odd, refused-atoms, refused-bonds}
+use Rattle.table.proofs.Tried.{told-end, told-self, told-twice, told-accepted}
+use Rattle.table.proofs.refusal.refusal_of.Statement.{statement}
+use Rattle.table.proofs.refusal.refusal_of.Tie as tie
+
+returns : tie.Need-returns
+returns c = sym (refused-odd _ .1 (omega arith))
+
+returns-2 : tie.Need-returns-2
+returns-2 c = sym (refused-atoms _ .1 (omega arith, inl (omega arith)))
+
+returns-3 : tie.Need-returns-3
+returns-3 c = sym (refused-atoms _ .1 (omega arith, inr (omega arith)))
+
+returns-4 : tie.Need-returns-4
+returns-4 c = sym (refused-bonds _ .1 (omega arith, omega arith, omega arith))
+
+any-bad-end-requires : tie.Need-any-bad-end-requires
+any-bad-end-requires c κs = search needs
+
+returns-5 : tie.Need-returns-5
+returns-5 c = told-end _ (omega arith) (c .before .any-bad-end .ensures) (c .if5 .taken)
+
+any-self-bond-requires : tie.Need-any-self-bond-requires
+any-self-bond-requires c κs = search needs
+
+returns-6 : tie.Need-returns-6
+returns-6 c =
+    let ends = c .before .before in
+    told-self _ (omega arith) (ends .before .any-bad-end .ensures) (ends .if5 .left) (c .before .any-self-bond .ensures) (c .if6 .taken)
+
+any-twice-requires : tie.Need-any-twice-requires
+any-twice-requires c κs = search needs
+
+returns-7 : tie.Need-returns-7
+unfolding seenBefore?
+returns-7 c =
+    let selfs = c .before .before in
+    let ends = selfs .before .before in
+    told-twice _ (omega arith) (ends .before .any-bad-end .ensures) (ends .if5 .left) (selfs .before .any-self-bond .ensures) (selfs .if6 .left) (c .before .any-twice .ensures) (c .if7 .taken)
+
+returns-8 : tie.Need-returns-8
+unfolding seenBefore?
+returns-8 c =
+    let selfs = c .before .before in
+    let ends = selfs .before .before in
+    told-accepted _ (omega arith) (ends .before .any-bad-end .ensures) (ends .if5 .left) (selfs .before .any-self-bond .ensures) (selfs .if6 .left) (c .before .any-twice .ensures) (c .if7 .left)
+
+pub refusal-of-spec : {M : Type 1} → statement M
+refusal-of-spec =
+    tie.close
+    (tie.spec
+    returns
+    returns-2
+    returns-3
+    returns-4
+    any-bad-end-requires
+    returns-5
+    any-self-bond-requires
+    returns-6
+    any-twice-requires
+    returns-7
+    returns-8)

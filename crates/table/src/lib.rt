@@ -1,0 +1,43 @@
+// The check of a connection table, an atom count and two bytes a bond, and what the steps above take from an accepted one: its
+// ring closure bonds and the rows of its atoms.
+mod answer;
+mod closure;
+mod ends;
+mod limits;
+mod refusal;
+mod row;
+
+pub use answer::ATOMS;
+pub use answer::Answer;
+pub use answer::BONDS;
+pub use answer::END;
+pub use answer::ODD;
+pub use answer::ROOM;
+pub use answer::SELF;
+pub use answer::TANGLED;
+pub use answer::TWICE;
+pub use closure::closure_bonds;
+pub use limits::MAX_ATOMS;
+pub use limits::MAX_BONDS;
+pub use refusal::refusal_of;
+pub use row::rows;
+ghost use mathlib.Core.Path.{_≡_};
+ghost use mathlib.Core.List.{[]};
+ghost use lib.ListN.{length};
+ghost use Rattle.definitions.specs.Table.{table, refusal};
+ghost use Rattle.definitions.specs.Basis.{basisRings};
+ghost use Rattle.definitions.specs.Answer.{outcomeOf, checked};
+
+// The table check: 0 and the number of basis rings, or the number of the refusal and 0.
+pub fn check(atoms: u64, bonds: &[u8]) -> Answer
+    ensures { λ r. ⌜ outcomeOf (r .number) (r .count) [] ≡ checked (refusal (table atoms (now (bonds .entry)))) (length (basisRings (table atoms (now (bonds .entry))))) [] ⌝ }
+{
+    let number = refusal_of(atoms, bonds);
+    if number > 0 {
+        return Answer { number, count: 0 };
+    }
+    Answer {
+        number: 0,
+        count: closure_bonds(atoms, bonds).size(),
+    }
+}
