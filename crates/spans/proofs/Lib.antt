@@ -1,0 +1,19 @@
+-- Sums of sets, the exchange bound, and what is taken of a list: for every crate that speaks of bases.
+--     Spans          what a list of sets spans, by induction
+--     Choice         sums by choices, the test of a sum, independence in three readings
+--     Exchange       an independent list of sums is no longer than what it sums
+--     Taking         what is taken of a list: a part of it, independent, with the same span; one more set as a loop goes
+--     Counts         how many numbers are at most t, or t, and the total of a list
+--     Lightest       what is taken of a rising list weighs least, and the weights are the same in all that do
+--     Invariant      the same weights are taken of lists that a map carries to each other
+--     Elimination    the test of a sum by kept sets, one for each lowest member, as code has it
+--     Smallest       the theorems about the smallest basis, over any list in rising size
+pub mod Spans
+pub mod Choice
+pub mod Exchange
+pub mod Taking
+pub mod Counts
+pub mod Lightest
+pub mod Invariant
+pub mod Elimination
+pub mod Smallest

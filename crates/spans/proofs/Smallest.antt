@@ -1,0 +1,92 @@
+-- What is taken of a list in rising size is a smallest basis of it: its sets are sets of the list, none is a sum of others, every set
+-- of the list is a sum of them, and no other such list has a smaller total of sizes. The sizes are the same in every smallest
+-- basis. Assumes nothing.
+use mathlib.Core.Path.{_≡_, sym, _∙_}
+use mathlib.Core.Bool.{true, _&&_}
+use mathlib.Core.Logic.{inl, inr}
+use mathlib.Core.List.{List, [], map}
+use mathlib.Core.List.{List·Memᴰ as In}
+use Prim.Native.Nat.{ℕ, _≤_}
+use native.Mathlib.Nat.{le-of-lt, le-of-eq}
+use borrow.Author.Tests.{ltb-true, eqb-true}
+use lib.Dec.{eqb, ltb}
+use lib.ListN.{length}
+use Rattle.sets.specs.Bits.{size}
+use Rattle.definitions.specs.Search.{total}
+use Rattle.definitions.specs.AllRings.{before}
+use Rattle.definitions.specs.Label.{occurs}
+use Rattle.definitions.specs.Smallest.{SumOf, taking}
+use Rattle.definitions.proofs.Tests.{or-one, and-both}
+use Rattle.definitions.proofs.Lists.{Sorted}
+use Rattle.spans.proofs.Choice.{NoneOfOthers, others-iff-indep, sum→span, span→sum}
+use Rattle.spans.proofs.Taking.{taking-in, taking-indep, taking-holds}
+use Rattle.spans.proofs.Counts.{light}
+use Rattle.spans.proofs.Lightest.{Rising, sorted-rising, Basis, basis-of, basis-length, taking-least, lightest-occurs}
+
+-- a ring that stands before another is no larger
+before-size : (x y : ℕ) → before x y ≡ true → size x ≤ size y
+unfolding before
+before-size x y e =
+    elim (or-one (ltb (size x) (size y)) (eqb (size x) (size y) && ltb x y) e) [
+      | inl l ↦ le-of-lt (ltb-true (size x) (size y) l)
+      | inr b ↦ le-of-eq (eqb-true (size x) (size y) (and-both (eqb (size x) (size y)) (ltb x y) b .0))
+    ]
+
+-- so a list in the order of all rings is in rising size
+pub before-rising : {xs : List ℕ} → Sorted before xs → Rising size xs
+before-rising s = sorted-rising size before-size s
+
+-- bs is a basis made of sets of xs
+pub record BasisOf (xs bs : List ℕ) : Type 0 where
+  pub members : (b : ℕ) → In b bs → In b xs
+  pub none-of-others : NoneOfOthers bs
+  pub span-all : (x : ℕ) → In x xs → SumOf bs x
+
+-- and no other has a smaller total of sizes
+pub record SmallestOf (xs bs : List ℕ) : Type 0 where
+  pub basis : BasisOf xs bs
+  pub least : (cs : List ℕ) → BasisOf xs cs → total (map size bs) ≤ total (map size cs)
+
+-- no set taken is a sum of others
+pub taken-none-of-others : (xs : List ℕ) → NoneOfOthers (taking [] xs)
+taken-none-of-others xs = others-iff-indep (taking [] xs) .1 (taking-indep xs)
+
+-- each set of the list is a sum of sets taken
+pub taken-span-all : (xs : List ℕ) (x : ℕ) → In x xs → SumOf (taking [] xs) x
+taken-span-all xs x i = span→sum (taking-holds xs x i)
+
+-- what is taken is a basis
+pub taken-basis : (xs : List ℕ) → BasisOf xs (taking [] xs)
+taken-basis xs = record { members = taking-in xs; none-of-others = taken-none-of-others xs; span-all = taken-span-all xs }
+
+-- it is a basis in the sense of spans
+as-basis : {xs bs : List ℕ} → BasisOf xs bs → Basis size xs bs
+as-basis {xs} {bs} b = basis-of size xs bs (others-iff-indep bs .0 (b .none-of-others)) (b .members) (λ x i. sum→span (b .span-all x i))
+
+-- every basis has as many sets
+pub taken-length : (xs bs : List ℕ) → BasisOf xs bs → length bs ≡ length (taking [] xs)
+taken-length xs bs b = basis-length size xs bs (as-basis b)
+
+module _ (xs : List ℕ) (rising : Rising size xs) where
+  -- no basis has a smaller total of sizes
+  pub taken-least-total : (bs : List ℕ) → BasisOf xs bs → total (map size (taking [] xs)) ≤ total (map size bs)
+  taken-least-total bs b = taking-least size xs rising bs (as-basis b)
+
+  -- nor has any whose sets are sums of sets of the list no larger than themselves
+  pub taken-least-of-sums : (bs : List ℕ) → NoneOfOthers bs → ((b : ℕ) → In b bs → SumOf (light size (size b) xs) b) → ((x : ℕ) → In x xs → SumOf bs x)
+      → total (map size (taking [] xs)) ≤ total (map size bs)
+  taken-least-of-sums bs d reached spans =
+      taking-least size xs rising bs
+      (record { indep = others-iff-indep bs .0 d; reached = λ b i. sum→span (reached b i); spans = λ x i. sum→span (spans x i) })
+
+  -- what is taken is a smallest basis
+  pub taken-smallest : SmallestOf xs (taking [] xs)
+  taken-smallest = record { basis = taken-basis xs; least = taken-least-total }
+
+  -- every smallest basis has as many sets of each size
+  pub taken-sizes-unique : (bs : List ℕ) → SmallestOf xs bs → (t : ℕ) → occurs t (map size bs) ≡ occurs t (map size (taking [] xs))
+  taken-sizes-unique bs b t = sym (lightest-occurs size xs rising bs (as-basis (b .basis)) (b .least (taking [] xs) (taken-basis xs)) t)
+
+  -- so any two smallest bases have as many sets of each size
+  pub smallest-sizes-agree : (bs cs : List ℕ) → SmallestOf xs bs → SmallestOf xs cs → (t : ℕ) → occurs t (map size bs) ≡ occurs t (map size cs)
+  smallest-sizes-agree bs cs b c t = taken-sizes-unique bs b t ∙ sym (taken-sizes-unique cs c t)

@@ -1,0 +1,1 @@
+// No code: the laws of sums of sets stand in proofs/.
