@@ -1,0 +1,146 @@
+// The assemblies of basis rings, as 000 finds them: the first ring left starts an assembly, and the rings left that share a bond with
+// it are added, until a pass over those left adds none.
+use super::basis::Basis;
+use sets::BondSet;
+use sets::RingSet;
+use table::MAX_BONDS;
+ghost use mathlib.Core.Path.{_≡_};
+ghost use mathlib.Core.Bool.{true};
+ghost use Prim.Native.Nat.{ℕ, _≤_, _<_};
+ghost use lib.ListN.{length};
+ghost use Rattle.sets.specs.Bits.{has};
+ghost use Rattle.sets.specs.Bond.{bits as bondBits};
+ghost use Rattle.sets.specs.Ring.{bits as ringBits};
+ghost use Rattle.definitions.specs.Search.{setOf};
+ghost use Rattle.definitions.specs.Table.{maxBonds};
+ghost use Rattle.definitions.specs.Assembly.{assembliesOf};
+ghost use Rattle.definitions.specs.Answer.{over};
+ghost use Rattle.basis.specs.Held.{ringsOf, Counted, membersOf, AssembliesOf};
+ghost use Rattle.basis.specs.Clusters.{groupOf, joinedBy, Grouped, Apart, Pass, FirstWith};
+
+// The assemblies in order, each as the set of its basis rings: the first count sets.
+pub struct Assemblies {
+    pub members: [RingSet; MAX_BONDS],
+    pub count: usize,
+}
+
+// An assembly that grows: its basis rings, their bonds, and the rings that are left.
+pub(crate) struct Cluster {
+    pub members: RingSet,
+    pub bonds: BondSet,
+    pub left: RingSet,
+}
+
+impl Cluster {
+    // Ring i, one of those left, joins the cluster where it shares a bond with it.
+    fn joined(self, i: usize, ring: BondSet) -> Cluster
+        ensures { λ r. ⌜ groupOf r ≡ joinedBy (groupOf self) i (bondBits ring) ⌝ }
+    {
+        if ring.meets(self.bonds) {
+            Cluster {
+                members: self.members.with(i),
+                bonds: self.bonds.union(ring),
+                left: self.left.without(i),
+            }
+        } else {
+            self
+        }
+    }
+
+    // One pass over the rings left.
+    fn passed(self, basis: Basis) -> Cluster
+        requires { ⌜ Counted basis × ((i : ℕ) → has (ringBits (self .left)) i ≡ true → i < basis .count) ⌝ }
+        ensures { λ r. ⌜ Pass (ringsOf basis) (groupOf self) (groupOf r) ⌝ }
+    {
+        let mut cluster = self;
+        let mut i = cluster.left.next(0);
+        while i < MAX_BONDS {
+            let ring = basis.rings[i];
+            cluster = cluster.joined(i, ring);
+            i = cluster.left.next(i + 1);
+        }
+        cluster
+    }
+}
+
+// The cluster of a ring, collected from the rings left.
+fn cluster_of(basis: Basis, first: usize, left: RingSet) -> Cluster
+    requires { ⌜ Counted basis × (has (ringBits left) first ≡ true) × ((i : ℕ) → has (ringBits left) i ≡ true → i < basis .count) ⌝ }
+    ensures { λ r. ⌜ Grouped (ringsOf basis) first (ringBits left) (groupOf r) × Apart (ringsOf basis) (groupOf r) ⌝ }
+{
+    let bonds = basis.rings[first];
+    let mut cluster = Cluster {
+        members: RingSet::only(first),
+        bonds,
+        left: left.without(first),
+    };
+    let mut grew = true;
+    while grew {
+        let before = cluster.left.size();
+        cluster = cluster.passed(basis);
+        grew = cluster.left.size() < before;
+    }
+    cluster
+}
+
+// The set of the first count basis rings.
+fn rings_below(count: usize) -> RingSet
+    requires { ⌜ count ≤ maxBonds ⌝ }
+    ensures { λ r. ⌜ ringBits r ≡ setOf count (λ i. true) ⌝ }
+{
+    let mut rings = RingSet::EMPTY;
+    let mut i: usize = 0;
+    while i < count {
+        rings = rings.with(i);
+        i += 1;
+    }
+    rings
+}
+
+// The assemblies of basis rings.
+pub fn assemblies_of(basis: Basis) -> Assemblies
+    requires { ⌜ Counted basis ⌝ }
+    ensures { λ r. ⌜ AssembliesOf (ringsOf basis) r ⌝ }
+{
+    let mut members = [RingSet::EMPTY; MAX_BONDS];
+    let mut count: usize = 0;
+    let mut left = rings_below(basis.count);
+    let mut first = left.next(0);
+    while first < MAX_BONDS {
+        let cluster = cluster_of(basis, first, left);
+        let found = cluster.members;
+        members[count] = found;
+        count += 1;
+        left = cluster.left;
+        first = left.next(0);
+    }
+    Assemblies { members, count }
+}
+
+// The first assembly that has basis ring i, or the number of assemblies where there is none.
+fn assembly_with(assemblies: Assemblies, i: usize) -> usize
+    requires { ⌜ assemblies .count ≤ maxBonds ⌝ }
+    ensures { λ r. ⌜ FirstWith (assemblies .count) (membersOf assemblies) i r ⌝ }
+{
+    let mut a: usize = 0;
+    while a < assemblies.count {
+        let members = assemblies.members[a];
+        if members.has(i) {
+            return a;
+        }
+        a += 1;
+    }
+    a
+}
+
+// Writes the assembly of each basis ring over the start of a list.
+pub(crate) fn write_assemblies(basis: Basis, assemblies: Assemblies, out: &mut [u8])
+    requires { ⌜ Counted basis × AssembliesOf (ringsOf basis) assemblies × (length (assembliesOf (ringsOf basis)) ≤ length (now out)) ⌝ }
+    ensures { λ _. ⌜ now (out .exit) ≡ over (assembliesOf (ringsOf basis)) (now (out .entry)) ⌝ }
+{
+    let mut i: usize = 0;
+    while i < basis.count {
+        out[i] = assembly_with(assemblies, i) as u8;
+        i += 1;
+    }
+}
