@@ -9,8 +9,8 @@ use native.Mathlib.Decide.{le-ind}
 use native.Mathlib.Omega.{arith}
 use borrow.Author.Tests.{lt-ltb, le-ltb}
 use lib.Dec.{ltb}
-use lib.ListN.{length, take, set, length-set, length-map}
-use lib.Seq.{take-suc-set, length-take-le}
+use lib.ListN.{length, getD, take, set, length-set, length-map}
+use lib.Seq.{take-suc-set, length-take-le, getD-set-other}
 use Rattle.sets.specs.Bits.{has, IsNext}
 use Rattle.sets.specs.Bond.{bits, room}
 use Rattle.sets.specs.declared.bond.BondSet.{BondSet}
@@ -20,6 +20,7 @@ use Rattle.definitions.specs.Table.{Table, bonds}
 use Rattle.definitions.specs.Basis.{closure?, basisRing, basisRings}
 use Rattle.definitions.proofs.Lists.{listed-zero, listed-skip, listed-take, listed-ext, has-setOf}
 use Rattle.definitions.proofs.Refusals.{Valid}
+use Rattle.table.specs.Row.{none}
 use Rattle.basis.specs.Steps.{ringAt, Complete}
 use Rattle.basis.specs.Held.{BasisOf}
 
@@ -27,7 +28,8 @@ use Rattle.basis.specs.Held.{BasisOf}
 pub listed-gap : {A : Type 0} (p : ℕ → Bool) (f : ℕ → A) (k n : ℕ) → k ≤ n → ((j : ℕ) → k ≤ j → j < n → p j ≡ false) → listed n p f ≡ listed k p f
 listed-gap p f k n h none =
     le-ind (λ m. ((j : ℕ) → k ≤ j → j < m → p j ≡ false) → listed m p f ≡ listed k p f) (λ z. refl)
-    (λ m (l : k ≤ m) ih z. ap (λ (i : ℕ). listed i p f) (sym (add-one m)) ∙ listed-skip p f m refl (z m l (omega arith)) ∙ ih (λ j a b. z j a (omega arith))) n h none
+    (λ m (l : k ≤ m) ih z.
+    ap (λ (i : ℕ). listed i p f) (sym (add-one m)) ∙ listed-skip p f m refl (z m l (omega arith)) ∙ ih (λ j a b. z j a (omega arith))) n h none
 
 -- a store in a list is one in its image
 pub map-set : {A B : Type 0} (g : A → B) (l : List A) (i : ℕ) (x : A) → map g (set l i x) ≡ set (map g l) i (g x)
@@ -42,14 +44,16 @@ pub record Collected (c : ℕ) (f : ℕ → ℕ) (sets : List BondSet) (n k : �
   pub few : n ≤ k
   pub member : k < room → has c k ≡ true
   pub list : take n (map bits sets) ≡ listed k (has c) f
+  pub blank : (i : ℕ) → n ≤ i → bits (getD sets i none) ≡ 0
 
-pub collected-none : {c k : ℕ} (f : ℕ → ℕ) {sets : List BondSet} → length sets ≡ room → IsNext room c 0 k → Collected c f sets 0 k
-collected-none {c} {k} f e n = record {
+pub collected-none : {c k : ℕ} (f : ℕ → ℕ) {sets : List BondSet} → length sets ≡ room → ((i : ℕ) → getD sets i none ≡ none) → IsNext room c 0 k → Collected c f sets 0 k
+collected-none {c} {k} f e z n = record {
   within = n .within;
   long = e;
   few = omega arith;
   member = n .member;
   list = sym (listed-gap (has c) f 0 k (omega arith) (n .none) ∙ listed-zero (has c) f);
+  blank = λ i h. ap bits (z i);
 }
 
 module _ {c : ℕ} {f : ℕ → ℕ} {sets : List BondSet} {n k : ℕ} (s : Collected c f sets n k) where
@@ -67,6 +71,7 @@ module _ {c : ℕ} {f : ℕ → ℕ} {sets : List BondSet} {n k : ℕ} (s : Coll
             (take-suc-set (map bits sets) n (bits x) (omega (arith, length-map sets bits, s .long, s .few))
             ∙ ap₂ (λ (l : List ℕ) (y : ℕ). l ++ (y ∷ [])) (s .list) e
             ∙ sym (listed-gap (has c) f (k + 1) q (omega arith) (next .none) ∙ listed-take (has c) f k (sym there) refl));
+        blank = λ i h. ap bits (getD-set-other sets n i x none (omega arith)) ∙ s .blank i (omega arith);
       }
 
   -- all members are passed
@@ -94,4 +99,4 @@ pub collected-basis : {M : Table} {R L : ℕ → ℕ} {c n k : ℕ} {sets : List
     → Collected c (λ j. ringAt R L j (M .atoms)) sets n k → room ≤ k → BasisOf M (record { rings = sets; count = n })
 collected-basis valid g s h =
     let rings = collected-all s h ∙ complete-rings (valid .few-bonds) g in
-    record { rings = rings; count = sym (collected-count s) ∙ ap length rings; counted = omega (arith, s .few, s .within) }
+    record { rings = rings; count = sym (collected-count s) ∙ ap length rings; counted = omega (arith, s .few, s .within); blank = s .blank }

@@ -104,8 +104,12 @@ module _ (M : Table) (k : ℕ) where
   -- bond k crosses the cut of a fragment that it meets, if it joins two, and of no other
   pub crosses-bond : (a : ℕ) → closure? M k ≡ false → AtBond a → crosses M k a k ≡ true
   unfolding crosses closure? xor
-  crosses-bond a c (inl e) = ap₂ xor (eq-eqb (part M k (tail M k)) (part M k a) (sym e)) (ne-eqb (part M k (head M k)) (part M k a) (λ z. eqb-false _ _ c (sym (z ∙ e))))
-  crosses-bond a c (inr e) = ap₂ xor (ne-eqb (part M k (tail M k)) (part M k a) (λ z. eqb-false _ _ c (z ∙ e))) (eq-eqb (part M k (head M k)) (part M k a) (sym e))
+  crosses-bond a c (inl e) =
+      ap₂ xor (eq-eqb (part M k (tail M k)) (part M k a) (sym e))
+      (ne-eqb (part M k (head M k)) (part M k a) (λ z. eqb-false _ _ c (sym (z ∙ e))))
+  crosses-bond a c (inr e) =
+      ap₂ xor (ne-eqb (part M k (tail M k)) (part M k a) (λ z. eqb-false _ _ c (z ∙ e)))
+      (eq-eqb (part M k (head M k)) (part M k a) (sym e))
 
   pub bond-crosses : (a : ℕ) → crosses M k a k ≡ true → (closure? M k ≡ false) × AtBond a
   unfolding crosses closure? xor

@@ -53,7 +53,10 @@ grouped-one rs first all inside h l em eb el = rw (em, eb, el) (record {
     only i m = ⊎-elim (λ z. clashes z (has-zero i)) (λ (q, _). q) (put-from room 0 first i m)
 
     alone : (i : ℕ) → eqb first i ≡ has (put room 0 first) i
-    alone i = same-test (eqb first i) (has (put room 0 first) i) (λ t. rw (← (eqb-true first i t)) (put-new room 0 first l)) (λ t. eq-eqb first i (sym (only i t)))
+    alone i =
+        same-test (eqb first i) (has (put room 0 first) i)
+        (λ t. rw (← (eqb-true first i t)) (put-new room 0 first l))
+        (λ t. eq-eqb first i (sym (only i t)))
 
 -- ---- a ring joins
 
@@ -63,7 +66,8 @@ neither true false c = refl
 neither false b c = refl
 
 -- a ring that shares a bond is taken in, any other leaves the group as it is
-pub joined-takes : (g : Group) (i s : ℕ) {m b l : ℕ} {t : Bool} → t ≡ meet s (g .bonds) → t ≡ true → m ≡ put room (g .members) i → b ≡ bitOr (g .bonds) s → l ≡ without (g .left) i
+pub joined-takes : (g : Group) (i s : ℕ) {m b l : ℕ} {t : Bool} → t ≡ meet s (g .bonds) → t ≡ true
+    → m ≡ put room (g .members) i → b ≡ bitOr (g .bonds) s → l ≡ without (g .left) i
     → _≡_ {A = Group} (record { members = m; bonds = b; left = l }) (joinedBy g i s)
 joined-takes g i s e h em eb el = rw (sym e ∙ h, em, eb, el)
 
@@ -71,19 +75,23 @@ pub joined-leaves : (g : Group) (i s : ℕ) {t : Bool} → t ≡ meet s (g .bond
 joined-leaves g i s e h = rw (sym e ∙ h)
 
 -- a ring that is left and shares a bond with the group is linked with the first
-joins-linked : {rs : List ℕ} {first all : ℕ} {g : Group} → Grouped rs first all g → (i : ℕ) → has (g .left) i ≡ true → meet (getD rs i 0) (g .bonds) ≡ true → Linked rs first i
+joins-linked : {rs : List ℕ} {first all : ℕ} {g : Group} → Grouped rs first all g
+    → (i : ℕ) → has (g .left) i ≡ true → meet (getD rs i 0) (g .bonds) ≡ true → Linked rs first i
 joins-linked {rs} {first} {all} {g} q i h e =
     let (k, a, b) = common (getD rs i 0) (g .bonds) e in
     let (j, m, c) = q .bond k b in
     let (in-all, linked, _) = q .member j m in
     linked-trans linked (shares (q .inside j in-all) (q .inside i (left-all q i h)) (meets (getD rs j 0) (getD rs i 0) k c a) same)
 
-pub grouped-join : {rs : List ℕ} {first all : ℕ} {g : Group} → Grouped rs first all g → (i : ℕ) → i < room → has (g .left) i ≡ true → meet (getD rs i 0) (g .bonds) ≡ true
+pub grouped-join : {rs : List ℕ} {first all : ℕ} {g : Group} → Grouped rs first all g
+    → (i : ℕ) → i < room → has (g .left) i ≡ true → meet (getD rs i 0) (g .bonds) ≡ true
     → Grouped rs first all (record { members = put room (g .members) i; bonds = bitOr (g .bonds) (getD rs i 0); left = without (g .left) i })
 grouped-join {rs} {first} {all} {g} q i l h e = record {
   inside = q .inside;
   start = put-old room (g .members) i first (q .start);
-  member = λ j m. ⊎-elim (λ o. old j (q .member j o)) (λ (z, _). rw z (left-all q i h, joins-linked q i h e, λ k t. or-right k t)) (put-from room (g .members) i j m);
+  member = λ j m.
+      ⊎-elim (λ o. old j (q .member j o)) (λ (z, _). rw z (left-all q i h, joins-linked q i h e, λ k t. or-right k t))
+      (put-from room (g .members) i j m);
   bond = λ k t. ⊎-elim (λ o. let (j, m, c) = q .bond k o in (j, put-old room (g .members) i j m, c)) (λ c. (i, put-new room (g .members) i l, c))
       (or-one (has (g .bonds) k) (has (getD rs i 0) k) (sym (has-or (g .bonds) (getD rs i 0) k) ∙ t));
   other = λ j. has-without (g .left) i j ∙ ap (λ (b : Bool). b && not (eqb i j)) (q .other j) ∙ neither (has all j) (has (g .members) j) (eqb i j)

@@ -1,41 +1,34 @@
--- Why Welch's algorithm finds the basis rings. Every row shares an even number of bonds with each even set, at first because it holds
+-- What holds after each bond that Welch's algorithm tries. Every row shares an even number of bonds with each even set, at first because it holds
 -- the bonds at an atom, and sums keep that. The row of an unchosen atom is the cut of its fragment, and each fragment has one unchosen
--- atom: so a bond that no unchosen row holds joins atoms of one fragment. A bond that labels an atom is held by no other row. So the
--- basis ring of a closure bond shares with a chosen row at most the row's label and the closure bond, and, the number being even, has
--- the label exactly where the row has the closure bond. Assumes nothing.
+-- atom: so a bond that no unchosen row holds joins atoms of one fragment. A bond that labels an atom is held by no other row.
+-- Assumes nothing.
 use mathlib.Core.Path.{_≡_, refl, sym, ap, ap₂, _∙_}
-use mathlib.Core.List.{List}
 use mathlib.Core.Logic.{_≢_, _⊎_, inl, inr, ⊎-elim}
-use mathlib.Core.Bool.{Bool, true, false, _&&_, not, xor, cond, and-false}
+use mathlib.Core.Bool.{Bool, true, false, _&&_, not, xor}
 use Prim.Native.Nat.{ℕ, _+_, _≤_, _<_}
-use native.Mathlib.Nat.{le-antisymm}
 use native.Mathlib.Omega.{arith}
-use borrow.Author.Tests.{eqb-true, eqb-false, eq-eqb, ne-eqb, lt-ltb, ltb-true, not-true}
-use lib.Bits.{bitXor}
-use lib.Dec.{eqb, ltb}
-use lib.ListN.{length, set}
-use lib.Seq.{getD-set-same, getD-set-other}
-use Rattle.sets.specs.Bits.{has, Sub, with, put}
+use borrow.Author.Tests.{eqb-true, eqb-false, eq-eqb, lt-ltb}
+use lib.Dec.{eqb}
+use lib.ListN.{set}
+use Rattle.sets.specs.Bits.{has, with, put}
 use Rattle.sets.specs.Bond.{room}
 use Rattle.sets.proofs.Laws.{has-xor}
-use Rattle.sets.proofs.Members.{sub-antisym}
 use Rattle.sets.proofs.Machine.{put-below}
 use Rattle.definitions.specs.Search.{setOf}
 use Rattle.definitions.specs.Table.{Table, bonds, tail, head, meets?}
 use Rattle.definitions.specs.Ring.{Even}
-use Rattle.definitions.specs.Basis.{closure?, basisRing}
-use Rattle.definitions.proofs.Tests.{by, clashes, and-both, both-and, eqb-self, not-failed}
+use Rattle.definitions.specs.Basis.{closure?}
+use Rattle.definitions.proofs.Tests.{by, clashes, and-both, both-and, not-failed}
 use Rattle.definitions.proofs.Lists.{has-setOf, setOf-skip, setOf-take}
 use Rattle.definitions.proofs.Refusals.{Valid}
-use Rattle.definitions.proofs.Paths.{closure-test, has-forest}
 use Rattle.cycles.proofs.Evens.{meets-xor}
-use Rattle.cycles.proofs.BasisRings.{Fundamental, basis-fundamental}
 use Rattle.cycles.proofs.Xor.{xor-false, xor-self}
-use Rattle.basis.specs.Steps.{labelAt, unchosen, FirstOpen, summed, labelled, Tried, ringAt, Complete}
+use Rattle.basis.specs.Steps.{unchosen, FirstOpen, summed, labelled, Tried}
 use Rattle.basis.specs.Steps.Tried.{chosen, closed}
-use Rattle.basis.proofs.Labels.{ring-own, ring-takes, ring-from}
-use Rattle.basis.proofs.Cuts.{part, part-none, crosses, crosses-none, AtBond, together, together-at, together-from, one-or-other, crosses-bond, bond-crosses, closure-apart, crosses-kept, together-closed, crosses-closed, crosses-sum}
-use Rattle.basis.proofs.Orthogonal.{SharesEvenly, evenly-sum, evenly-row, across}
+use Rattle.basis.proofs.Summing.{summed-own, summed-skip, summed-take, summed-either, labelled-own, labelled-other}
+use Rattle.basis.proofs.Cuts.{part, part-none, AtBond, together, together-at, together-from, together-closed, one-or-other, closure-apart}
+use Rattle.basis.proofs.Cuts.{crosses, crosses-none, crosses-bond, bond-crosses, crosses-kept, crosses-closed, crosses-sum}
+use Rattle.basis.proofs.Orthogonal.{SharesEvenly, evenly-sum, evenly-row}
 
 -- what holds of the rows R, the labels L and the closure bonds c after the bonds below k were tried
 pub record Grown (M : Table) (k : ℕ) (R L : ℕ → ℕ) (c : ℕ) : Type 0 where
@@ -94,50 +87,7 @@ module _ {M : Table} (valid : Valid M) {k : ℕ} {R L : ℕ → ℕ} {c : ℕ} (
       not-bond : (j : ℕ) → closure? M j ≡ false → j ≢ k
       not-bond j p q = clashes e (ap (closure? M) (sym q) ∙ p)
 
--- ---- a row that holds the bond, and the other rows
-
-module _ (R : ℕ → ℕ) (atom k : ℕ) where
-  -- the atom's own row stays
-  summed-own : summed R atom k atom ≡ R atom
-  summed-own = rw (eqb-self atom, and-false (has (R atom) k))
-
-  -- a row without the bond stays
-  summed-skip : (a : ℕ) → has (R a) k ≡ false → summed R atom k a ≡ R a
-  summed-skip a e = rw e
-
-  -- every other row is summed
-  summed-take : (a : ℕ) → a ≢ atom → has (R a) k ≡ true → summed R atom k a ≡ bitXor (R a) (R atom)
-  summed-take a ne e = rw (e, ne-eqb a atom ne)
-
-  -- row a is looked at, where it is as it was
-  pub summed-turn : (a : ℕ) {here row r : ℕ} {h : Bool} → here ≡ R a → row ≡ R atom → h ≡ has here k → r ≡ cond (h && not (eqb a atom)) (bitXor here row) here → r ≡ summed R atom k a
-  summed-turn a p q e f = f ∙ rw (e, p, q)
-
-  -- what holds of a row and of its sum with the atom's
-  summed-either : (P : ℕ → Type 0) (a : ℕ) → P (R a) → P (bitXor (R a) (R atom)) → P (summed R atom k a)
-  summed-either P a p q = go (has (R a) k && not (eqb a atom))
-    where
-      go : (b : Bool) → P (cond b (bitXor (R a) (R atom)) (R a))
-      go true = q
-      go false = p
-
-module _ (L : ℕ → ℕ) (atom k : ℕ) where
-  labelled-own : labelled L atom k atom ≡ k
-  labelled-own = rw (eqb-self atom)
-
-  labelled-other : (a : ℕ) → a ≢ atom → labelled L atom k a ≡ L a
-  labelled-other a ne = rw (ne-eqb a atom ne)
-
--- a label is stored
-pub labelled-set : (labels : List ℕ) (atom k a : ℕ) → atom < length labels → labelAt (set labels atom k) a ≡ labelled (labelAt labels) atom k a
-labelled-set labels atom k a l =
-    by (eqb a atom)
-    (λ e. rw (eqb-true a atom e) (getD-set-same labels atom k 0 l ∙ sym (labelled-own (labelAt labels) atom k)))
-    (λ e. getD-set-other labels atom a k 0 (eqb-false a atom e) ∙ sym (labelled-other (labelAt labels) atom k a (eqb-false a atom e)))
-
--- where the search passed all atoms none is open
-pub none-of-all : {n : ℕ} {R L : ℕ → ℕ} {k r : ℕ} → n ≤ r → FirstOpen n R L k r → FirstOpen n R L k n
-none-of-all h f = rw (le-antisymm (f .within) h) at f
+-- ---- a bond that an unchosen row holds joins two fragments
 
 module _ {M : Table} (valid : Valid M) {k : ℕ} {R L : ℕ → ℕ} {c : ℕ} (g : Grown M k R L c) (l : k < bonds M) {atom : ℕ} (h : atom < M .atoms)
     (f : FirstOpen (M .atoms) R L k atom) where
@@ -283,65 +233,15 @@ grown-none {M} valid er el = grown-same er el (record {
   label = λ a h u. absurd (u refl);
   alone = λ a b h i u. absurd (u refl);
   labels = λ j h. absurd (omega arith);
-  cut = λ a j h u i. has-setOf (bonds M) (meets? M a) j ∙ ap (λ (b : Bool). b && meets? M a j) (lt-ltb j (bonds M) i) ∙ meets-xor valid a j i ∙ sym (crosses-none valid a j h i);
+  cut = λ a j h u i.
+      has-setOf (bonds M) (meets? M a) j ∙ ap (λ (b : Bool). b && meets? M a j) (lt-ltb j (bonds M) i) ∙ meets-xor valid a j i
+      ∙ sym (crosses-none valid a j h i);
   some-open = λ v h. (v, h, refl, refl);
   one-open = λ a b h i u v e. sym (part-none M a h) ∙ e ∙ part-none M b i;
   closures = refl;
 })
 
-pub grown-turn : {M : Table} {k : ℕ} {R L R′ L′ : ℕ → ℕ} {c c′ : ℕ} → Valid M → k < bonds M → Grown M k R L c → Tried (M .atoms) k R L c R′ L′ c′ → Grown M (k + 1) R′ L′ c′
+pub grown-turn : {M : Table} {k : ℕ} {R L R′ L′ : ℕ → ℕ} {c c′ : ℕ} → Valid M → k < bonds M → Grown M k R L c
+    → Tried (M .atoms) k R L c R′ L′ c′ → Grown M (k + 1) R′ L′ c′
 grown-turn {M} {k} {R′} {L′} valid l g (chosen atom h f er el ec) = rw ec (grown-same er el (grown-chosen valid g l h f))
 grown-turn {M} {k} {R′} {L′} valid l g (closed f er el ec) = rw ec (grown-same er el (grown-closed valid g l f))
-
--- ---- after the last bond
-
-module _ {M : Table} (valid : Valid M) {R L : ℕ → ℕ} {c : ℕ} (g : Grown M (bonds M) R L c) {k : ℕ} (l : k < bonds M) (e : closure? M k ≡ true) where
-  ring : Fundamental M k (basisRing M k)
-  ring = basis-fundamental valid (closure-test valid k l .0 e)
-
-  -- a forest bond of the basis ring labels an atom
-  forest-label : (j : ℕ) → has (basisRing M k) j ≡ true → j ≢ k → (a : ℕ) × (a < M .atoms) × (L a ≡ j) × (L a ≢ unchosen)
-  forest-label j h ne =
-      let (i, t) = and-both (ltb j (bonds M)) (not (closure? M j)) (sym (has-forest M j) ∙ ring .tree j h ne) in
-      let (a, m, q) = g .labels j (ltb-true j (bonds M) i) (not-true (closure? M j) t) in
-      (a, m, q, λ z. omega (arith, ltb-true j (bonds M) i, valid .few-bonds))
-
-  -- it holds the label of an atom exactly where the atom's row holds the closure bond
-  label-in-ring : (a : ℕ) → a < M .atoms → L a ≢ unchosen → has (basisRing M k) (L a) ≡ has (R a) k
-  label-in-ring a h u =
-      let (low, forest, own) = g .label a h u in
-      across (basisRing M k) (R a) (L a) k among (g .evenly (basisRing M k) a (ring .even) h) own (ring .member)
-    where
-      among : (j : ℕ) → has (basisRing M k) j ≡ true → has (R a) j ≡ true → (j ≡ L a) ⊎ (j ≡ k)
-      among j p q =
-          by (eqb j k) (λ t. inr (eqb-true j k t))
-          (λ t.
-          let (b, i, s, v) = forest-label j p (eqb-false j k t) in
-          by (eqb a b) (λ r. inl (sym s ∙ ap L (sym (eqb-true a b r))))
-          (λ r. clashes q (ap (has (R a)) (sym s) ∙ g .alone b a i h v (eqb-false a b r))))
-
-  -- so the closure bond with the labels of the rows that hold it is the basis ring
-  pub grown-ring : ringAt R L k (M .atoms) ≡ basisRing M k
-  grown-ring = sub-antisym _ _ there back
-    where
-      few : bonds M ≤ room
-      few = valid .few-bonds
-
-      there : Sub (ringAt R L k (M .atoms)) (basisRing M k)
-      there j h =
-          ⊎-elim (λ q. ap (has (basisRing M k)) q ∙ ring .member)
-          (λ (a, i, p, q, low). ap (has (basisRing M k)) (sym q) ∙ label-in-ring a i (λ z. omega arith) ∙ p)
-          (ring-from R L k (M .atoms) j h)
-
-      back : Sub (basisRing M k) (ringAt R L k (M .atoms))
-      back j h =
-          by (eqb j k) (λ t. rw (eqb-true j k t) (ring-own R L k (M .atoms) (omega (arith, few))))
-          (λ t.
-          let (a, i, q, u) = forest-label j h (eqb-false j k t) in
-          rw (← q) (ring-takes R L k (M .atoms) a i (sym (label-in-ring a i u) ∙ ap (has (basisRing M k)) q ∙ h) (omega (arith, g .label a i u .0, few))))
-
--- all bonds are tried
-pub grown-all : {M : Table} {k : ℕ} {R L : ℕ → ℕ} {c : ℕ} → Valid M → bonds M ≤ k → Grown M k R L c → Complete M R L c
-grown-all {M} {R = R} {L = L} {c = c} valid h g =
-    let whole : Grown M (bonds M) R L c = rw (le-antisymm (g .within) h) at g in
-    record { closures = whole .closures; rings = λ k l e. grown-ring valid whole l e }

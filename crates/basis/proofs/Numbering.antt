@@ -39,13 +39,17 @@ pub record Divided (rs : List ℕ) (sets : List RingSet) (n left : ℕ) : Type 0
   pub low : n ≤ assemblyCount rs
   pub found : (a : ℕ) → a < n → bits (getD sets a noRings) ≡ setOf (length rs) (λ i. eqb (number rs i) a)
   pub rest : (i : ℕ) → has left i ≡ ltb i (length rs) && leb n (number rs i)
+  pub blank : (a : ℕ) → n ≤ a → bits (getD sets a noRings) ≡ 0
 
-pub divided-none : (rs : List ℕ) (sets : List RingSet) {left : ℕ} → length sets ≡ room → left ≡ setOf (length rs) (λ i. true) → Divided rs sets 0 left
-divided-none rs sets e l = record {
+pub divided-none : (rs : List ℕ) (sets : List RingSet) {left : ℕ} → length sets ≡ room → ((a : ℕ) → getD sets a noRings ≡ noRings) → left ≡ setOf (length rs) (λ i. true) → Divided rs sets 0 left
+divided-none rs sets e z l = record {
   long = e;
   low = omega arith;
   found = λ a h. absurd (omega arith);
-  rest = λ i. ap (λ (s : ℕ). has s i) l ∙ has-setOf (length rs) (λ j. true) i ∙ ap (λ (b : Bool). ltb i (length rs) && b) (sym (le-leb 0 (number rs i) (omega arith)));
+  rest = λ i.
+      ap (λ (s : ℕ). has s i) l ∙ has-setOf (length rs) (λ j. true) i
+      ∙ ap (λ (b : Bool). ltb i (length rs) && b) (sym (le-leb 0 (number rs i) (omega arith)));
+  blank = λ a h. ap bits (z a);
 }
 
 module _ {rs : List ℕ} {sets : List RingSet} {n left : ℕ} (d : Divided rs sets n left) where
@@ -69,7 +73,7 @@ module _ {rs : List ℕ} {sets : List RingSet} {n left : ℕ} (d : Divided rs se
   pub divided-all : {first : ℕ} → length rs ≤ room → IsNext room left 0 first → room ≤ first → AssembliesOf rs (record { members = sets; count = n })
   divided-all few next h =
       let e = number-all rs n (d .low) (λ j l. used j l (next .none j (omega arith) (omega arith))) in
-      record { count = e; counted = omega (arith, assembly-count rs, count-le (first? rs) (length rs)); members = d .found }
+      record { count = e; counted = omega (arith, assembly-count rs, count-le (first? rs) (length rs)); members = d .found; blank = d .blank }
 
   module _ {first : ℕ} (few : length rs ≤ room) (next : IsNext room left 0 first) (h : first < room) where
     -- the first ring left has the next number
@@ -126,6 +130,7 @@ module _ {rs : List ℕ} {sets : List RingSet} {n left : ℕ} (d : Divided rs se
             (λ t. rw (eqb-true b n t) (ap bits (getD-set-same sets n x noRings (omega (arith, divided-room, d .long))) ∙ e ∙ assembly))
             (λ t. ap bits (getD-set-other sets n b x noRings (eqb-false b n t)) ∙ d .found b (omega (arith, eqb-false b n t)));
         rest = rest-are;
+        blank = λ b l. ap bits (getD-set-other sets n b x noRings (omega arith)) ∙ d .blank b (omega arith);
       }
 
 -- ---- the assembly of a ring

@@ -67,6 +67,10 @@ across s t l k among even p q = sym left ∙ both-or-neither (bitAnd s t) l k in
 pub evenly-row : (M : Table) (s a : ℕ) → Even M s → a < M .atoms → SharesEvenly s (setOf (bonds M) (meets? M a))
 unfolding degree
 evenly-row M s a e l =
-    let whole : bitAnd s (setOf (bonds M) (meets? M a)) ≡ setOf (bonds M) (λ k. has s k && meets? M a k)
-    = ext _ _ (λ k. simp (has-and, has-setOf) (sym (and-assoc (has s k) (ltb k (bonds M)) (meets? M a k)) ∙ ap (λ (b : Bool). b && meets? M a k) (and-comm (has s k) (ltb k (bonds M))) ∙ and-assoc (ltb k (bonds M)) (has s k) (meets? M a k))) in
+    let n = bonds M in
+    let turned : (k : ℕ) → has s k && (ltb k n && meets? M a k) ≡ ltb k n && (has s k && meets? M a k)
+    = λ k. sym (and-assoc (has s k) (ltb k n) (meets? M a k)) ∙ ap (λ (b : Bool). b && meets? M a k) (and-comm (has s k) (ltb k n))
+    ∙ and-assoc (ltb k n) (has s k) (meets? M a k) in
+    let whole : bitAnd s (setOf n (meets? M a)) ≡ setOf n (λ k. has s k && meets? M a k)
+    = ext _ _ (λ k. simp (has-and, has-setOf) (turned k)) in
     omega (arith, ap size whole, size-setOf (bonds M) (λ k. has s k && meets? M a k), e .evenly a l)

@@ -4,9 +4,9 @@ use mathlib.Core.Path.{_≡_, refl, sym, ap, _∙_}
 use mathlib.Core.List.{List, map}
 use Prim.Native.Nat.{ℕ, _+_, _≤_, _<_}
 use native.Mathlib.Omega.{arith}
-use borrow.Author.Tests.{eqb-true, eqb-false}
-use lib.Dec.{eqb}
-use lib.ListN.{length, getD, set, length-map}
+use borrow.Author.Tests.{eqb-true, eqb-false, ltb-true, ltb-false}
+use lib.Dec.{eqb, ltb}
+use lib.ListN.{length, getD, set, replicate, length-map, length-replicate, getD-replicate, List·getD-eq-default}
 use lib.Seq.{getD-set-same, getD-set-other}
 use Rattle.definitions.proofs.Tests.{by}
 
@@ -28,6 +28,12 @@ module _ {A : Type 0} where
         (λ t. ap read (getD-set-other l k i x d (eqb-false i k t)) ∙ r .done i (omega (arith, eqb-false i k t)));
     left = λ i m. ap read (getD-set-other l k i x d (omega arith)) ∙ r .left i (omega arith);
   }
+
+-- in a list of one value that value stands everywhere, and it stands for what is past the end
+pub getD-same : {A : Type 0} (n i : ℕ) (x : A) → getD (replicate n x) i x ≡ x
+getD-same n i x =
+    by (ltb i n) (λ t. getD-replicate n i x x (ltb-true i n t))
+    (λ t. List·getD-eq-default (replicate n x) x (omega (arith, length-replicate n x, ltb-false i n t)))
 
 -- what owning an array of sets tells of its list: an image that is n long is made of a list that is
 pub length-mapped : (X Y : Type 0) (f : X → Y) (l : List X) (n : ℕ) → length (map f l) ≡ n → length l ≡ n

@@ -12,6 +12,7 @@ use Rattle.definitions.specs.Search.{setOf}
 use Rattle.definitions.specs.Table.{Table, maxBonds}
 use Rattle.definitions.specs.Basis.{basisRings}
 use Rattle.definitions.specs.Assembly.{assembliesOf, assemblyCount}
+use Rattle.table.specs.Row.{none}
 use Rattle.basis.specs.declared.basis.Basis.{Basis}
 use Rattle.basis.specs.declared.assembly.Assemblies.{Assemblies}
 
@@ -23,11 +24,12 @@ ringsOf b = take (b .count) (map bond.bits (b .rings))
 abbrev pub Counted : Basis → Type 0
 Counted b = b .count ≤ maxBonds
 
--- b holds the basis rings of a table
+-- b holds the basis rings of a table, and empty sets after them
 pub record BasisOf (M : Table) (b : Basis) : Type 0 where
   pub rings : ringsOf b ≡ basisRings M
   pub count : b .count ≡ length (basisRings M)
   pub counted : Counted b
+  pub blank : (i : ℕ) → b .count ≤ i → bond.bits (getD (b .rings) i none) ≡ 0
 
 -- no basis rings
 abbrev pub noRings : RingSet
@@ -37,8 +39,9 @@ noRings = record { 0 = 0 }
 abbrev pub membersOf : Assemblies → ℕ → ℕ
 membersOf s a = ring.bits (getD (s .members) a noRings)
 
--- s holds the assemblies of a list of basis rings
+-- s holds the assemblies of a list of basis rings, and empty sets after them
 pub record AssembliesOf (rs : List ℕ) (s : Assemblies) : Type 0 where
   pub count : s .count ≡ assemblyCount rs
   pub counted : s .count ≤ maxBonds
   pub members : (a : ℕ) → a < s .count → membersOf s a ≡ setOf (length rs) (λ i. eqb (getD (assembliesOf rs) i 0) a)
+  pub blank : (a : ℕ) → s .count ≤ a → membersOf s a ≡ 0

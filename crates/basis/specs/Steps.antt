@@ -50,7 +50,8 @@ labelled L atom bond a = cond (eqb a atom) bond (L a)
 pub data Tried (n bond : ℕ) (R L : ℕ → ℕ) (c : ℕ) (R′ L′ : ℕ → ℕ) (c′ : ℕ) : Type 0 where
   chosen : (atom : ℕ) → atom < n → FirstOpen n R L bond atom → ((a : ℕ) → a < n → R′ a ≡ summed R atom bond a)
       → ((a : ℕ) → a < n → L′ a ≡ labelled L atom bond a) → c′ ≡ c → Tried n bond R L c R′ L′ c′
-  closed : FirstOpen n R L bond n → ((a : ℕ) → a < n → R′ a ≡ R a) → ((a : ℕ) → a < n → L′ a ≡ L a) → c′ ≡ put room c bond → Tried n bond R L c R′ L′ c′
+  closed : FirstOpen n R L bond n → ((a : ℕ) → a < n → R′ a ≡ R a) → ((a : ℕ) → a < n → L′ a ≡ L a) → c′ ≡ put room c bond
+      → Tried n bond R L c R′ L′ c′
 
 -- the bond with the labels of those of n rows that hold it
 unfoldable pub ringAt : (ℕ → ℕ) → (ℕ → ℕ) → ℕ → ℕ → ℕ

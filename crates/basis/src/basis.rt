@@ -5,7 +5,7 @@ use sets::BondSet;
 use table::MAX_ATOMS;
 use table::MAX_BONDS;
 ghost use mathlib.Core.Path.{_≡_};
-ghost use Prim.Native.Nat.{ℕ, _≤_, _<_};
+ghost use Prim.Native.Nat.{_≤_};
 ghost use lib.ListN.{length};
 ghost use Rattle.sets.specs.Bond.{bits};
 ghost use Rattle.definitions.specs.Table.{table, refusal};

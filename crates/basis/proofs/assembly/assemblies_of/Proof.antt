@@ -1,15 +1,15 @@
 -- Before each turn the first count assemblies are found and the rings of the others are left, the first of them next.
 -- Assumes nothing.
 use mathlib.Core.Path.{_≡_, refl}
-use Prim.Native.Nat.{_-_, _<_}
+use Prim.Native.Nat.{_-_, _≤_, _<_}
 use native.Mathlib.Omega.{arith}
 use lib.ListN.{length}
 use borrow.Author.Needs.{needs}
 use Rattle.sets.specs.Bits.{IsNext}
 use Rattle.sets.specs.Ring.{bits, room}
 use Rattle.definitions.specs.Table.{maxBonds}
-use Rattle.basis.specs.Held.{ringsOf}
-use Rattle.basis.proofs.Replacing.{length-mapped}
+use Rattle.basis.specs.Held.{ringsOf, noRings}
+use Rattle.basis.proofs.Replacing.{getD-same, length-mapped}
 use Rattle.basis.proofs.Holding.{rings-counted}
 use Rattle.basis.proofs.Numbering.{Divided, divided-none, left-below, divided-room, divided-more, divided-all}
 use Rattle.basis.proofs.assembly.assemblies_of.Statement.{statement}
@@ -26,11 +26,15 @@ abbrev μ-loop : tie.MeasureT-loop
 counted : (c : tie.Start Inv-loop μ-loop) → length (ringsOf (c .args .basis)) ≡ c .args .basis .count
 counted c = rings-counted (c .args .basis) (search (needs, length-mapped)) (c .pre)
 
+-- and there is room for them
+few : (c : tie.Start Inv-loop μ-loop) → length (ringsOf (c .args .basis)) ≤ room
+few c = omega (arith, counted c, c .pre)
+
 -- there is a place for the next assembly
 free : (c : tie.In-loop Inv-loop μ-loop) → c .before .loop .count < room
 free c =
     let at = c .before in
-    divided-room (at .loop .inv .0) (omega (arith, counted (at .before .before .before), at .before .before .before .pre)) (at .loop .inv .1) (c .loop-test .taken)
+    divided-room (at .loop .inv .0) (few (at .before .before .before)) (at .loop .inv .1) (c .loop-test .taken)
 
 rings-below-requires : tie.Need-rings-below-requires Inv-loop μ-loop
 rings-below-requires c κs = search needs
@@ -41,7 +45,7 @@ next-requires c κs = search needs
 loop-holds : tie.Need-loop-holds Inv-loop μ-loop
 loop-holds c =
     let start = c .before .before in
-    (divided-none (ringsOf (start .args .basis)) _ refl (rw (counted start) (c .before .rings-below .ensures)), c .next .ensures)
+    (divided-none (ringsOf (start .args .basis)) _ refl (λ a. getD-same maxBonds a noRings) (rw (counted start) (c .before .rings-below .ensures)), c .next .ensures)
 
 cluster-of-requires : tie.Need-cluster-of-requires Inv-loop μ-loop
 cluster-of-requires c κs =
@@ -69,13 +73,14 @@ loop-again c =
     let at = c .before .before .before .before .before in
     let start = at .before .before .before in
     let found = c .before .before .before .cluster-of .ensures in
-    (divided-more (at .loop .inv .0) (omega (arith, counted start, start .pre)) (at .loop .inv .1) (c .before .before .before .before .loop-test .taken) (found .0) (found .1) refl, c .next2 .ensures)
+    let taken = c .before .before .before .before .loop-test .taken in
+    (divided-more (at .loop .inv .0) (few start) (at .loop .inv .1) taken (found .0) (found .1) refl, c .next2 .ensures)
 
 returns : tie.Need-returns Inv-loop μ-loop
 returns c =
     let at = c .before in
     let start = at .before .before .before in
-    divided-all (at .loop .inv .0) (omega (arith, counted start, start .pre)) (at .loop .inv .1) (c .loop-test .left)
+    divided-all (at .loop .inv .0) (few start) (at .loop .inv .1) (c .loop-test .left)
 
 pub assemblies-of-spec : {M : Type 1} → statement M
 assemblies-of-spec =

@@ -46,7 +46,8 @@ passed-requires : tie.Need-passed-requires Inv-loop μ-loop
 passed-requires c κs =
     let at = c .before .before in
     let start = at .before .before .before .before in
-    (start .pre .0, λ i e. start .pre .2 i (without-old (bits (start .args .left)) (start .args .first) i (rw (at .before .without .ensures) at (at .loop .inv .fewer i e))))
+    let old = without-old (bits (start .args .left)) (start .args .first) in
+    (start .pre .0, λ i e. start .pre .2 i (old i (rw (at .before .without .ensures) at (at .loop .inv .fewer i e))))
 
 size-requires-2 : tie.Need-size-requires-2 Inv-loop μ-loop
 size-requires-2 c κs = search needs
@@ -63,12 +64,15 @@ returns : tie.Need-returns Inv-loop μ-loop
 returns c =
     let at = c .before in
     let start = at .before .before .before .before in
-    let given = start .args in
-    let long = rings-counted (given .t1) (search (needs, length-mapped)) (start .pre .0) in (
-      at .loop .inv .kept (bits (given .left)) (grouped-one (ringsOf (given .t1)) (given .first) (bits (given .left)) (λ i e. omega (arith, start .pre .2 i e)) (start .pre .1) (low start)
-          (at .before .before .only .ensures) (ring-at (given .t1) (given .first) (start .pre .2 (given .first) (start .pre .1))) (at .before .without .ensures)),
-      at .loop .inv .apart (c .loop-test .left),
-    )
+    let first = start .args .first in
+    let rings = ringsOf (start .args .t1) in
+    let long = rings-counted (start .args .t1) (search (needs, length-mapped)) (start .pre .0) in
+    let bonds = ring-at (start .args .t1) first (start .pre .2 first (start .pre .1)) in
+    let one =
+    grouped-one rings first (bits (start .args .left)) (λ i e. omega (arith, start .pre .2 i e)) (start .pre .1) (low start)
+    (at .before .before .only .ensures) bonds (at .before .without .ensures)
+    in
+    (at .loop .inv .kept (bits (start .args .left)) one, at .loop .inv .apart (c .loop-test .left))
 
 pub cluster-of-spec : {M : Type 1} → statement M
 cluster-of-spec =

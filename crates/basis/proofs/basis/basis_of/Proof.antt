@@ -10,6 +10,8 @@ use Rattle.sets.proofs.Upto.{next-rises}
 use Rattle.definitions.specs.Table.{table, maxBonds}
 use Rattle.definitions.proofs.Refusals.{Valid, accepted}
 use Rattle.basis.specs.Steps.{rowAt, labelAt, ringAt}
+use Rattle.table.specs.Row.{none}
+use Rattle.basis.proofs.Replacing.{getD-same}
 use Rattle.basis.proofs.Collecting.{Collected, collected-none, collected-more, collected-basis}
 use Rattle.basis.proofs.basis.basis_of.Statement.{statement}
 use Rattle.basis.proofs.basis.basis_of.Tie as tie
@@ -32,7 +34,7 @@ next-requires : tie.Need-next-requires Inv-loop μ-loop
 next-requires c κs = search needs
 
 loop-holds : tie.Need-loop-holds Inv-loop μ-loop
-loop-holds c = collected-none _ refl (c .next .ensures)
+loop-holds c = collected-none _ refl (λ i. getD-same maxBonds i none) (c .next .ensures)
 
 ring-of-requires : tie.Need-ring-of-requires Inv-loop μ-loop
 ring-of-requires c κs = valid (c .before .before .before .before .before .before) .few-atoms
@@ -53,13 +55,17 @@ next-requires-2 : tie.Need-next-requires-2 Inv-loop μ-loop
 next-requires-2 c κs = search needs
 
 loop-less : tie.Need-loop-less Inv-loop μ-loop
-loop-less c = let at = c .before .before .before in omega (arith, next-rises maxBonds _ (at .loop .k) _ (c .before .before .loop-test .taken) (c .next2 .ensures), c .next2 .ensures .within)
+loop-less c =
+    let taken = c .before .before .loop-test .taken in
+    omega (arith, next-rises maxBonds _ (c .before .before .before .loop .k) _ taken (c .next2 .ensures), c .next2 .ensures .within)
 
 loop-again : tie.Need-loop-again Inv-loop μ-loop
 loop-again c = collected-more (c .before .before .before .loop .inv) (c .before .before .loop-test .taken) (c .before .ring-of .ensures) (c .next2 .ensures)
 
 returns : tie.Need-returns Inv-loop μ-loop
-returns c = collected-basis (valid (c .before .before .before .before .before .before)) (c .before .before .before .before .grown .ensures) (c .before .loop .inv) (c .loop-test .left)
+returns c =
+    let made = c .before .before .before .before in
+    collected-basis (valid (made .before .before)) (made .grown .ensures) (c .before .loop .inv) (c .loop-test .left)
 
 pub basis-of-spec : {M : Type 1} → statement M
 basis-of-spec =

@@ -10,7 +10,8 @@ use Rattle.definitions.specs.Table.{table, maxAtoms}
 use Rattle.definitions.proofs.Refusals.{Valid, accepted}
 use Rattle.table.proofs.Meeting.{accepted-fitting}
 use Rattle.basis.specs.Steps.{rowAt, labelAt, unchosen}
-use Rattle.basis.proofs.Growing.{Grown, grown-none, grown-turn, grown-all}
+use Rattle.basis.proofs.Growing.{Grown, grown-none, grown-turn}
+use Rattle.basis.proofs.Completing.{grown-all}
 use Rattle.basis.proofs.basis.grown.Statement.{statement}
 use Rattle.basis.proofs.basis.grown.Tie as tie
 
@@ -43,7 +44,8 @@ loop-less : tie.Need-loop-less Inv-loop μ-loop
 loop-less c = search needs
 
 loop-again : tie.Need-loop-again Inv-loop μ-loop
-loop-again c = grown-turn (valid (c .before .before .before .before .before)) (c .before .loop-test .taken) (c .before .before .loop .inv) (c .with-bond .ensures)
+loop-again c =
+    grown-turn (valid (c .before .before .before .before .before)) (c .before .loop-test .taken) (c .before .before .loop .inv) (c .with-bond .ensures)
 
 returns : tie.Need-returns Inv-loop μ-loop
 returns c = grown-all (valid (c .before .before .before .before)) (c .loop-test .left) (c .before .loop .inv)

@@ -44,7 +44,9 @@ loop-less : tie.Need-loop-less Inv-loop μ-loop
 loop-less c = omega arith
 
 loop-again : tie.Need-loop-again Inv-loop μ-loop
-loop-again c = let at = c .before .before in written-more (at .loop .inv) (omega (arith, counted (at .before))) (ring-at (at .before .args .t1) (at .loop .i) (omega arith))
+loop-again c =
+    let at = c .before .before in
+    written-more (at .loop .inv) (omega (arith, counted (at .before))) (ring-at (at .before .args .t1) (at .loop .i) (omega arith))
 
 same-length : tie.Need-same-length Inv-loop μ-loop
 same-length c = written-length (c .before .loop .inv)

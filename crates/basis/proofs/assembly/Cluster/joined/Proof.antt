@@ -21,8 +21,10 @@ without-requires c κs = search needs
 
 returns : tie.Need-returns
 returns c =
-    let given = c .before .before .before .before .before .args in
-    joined-takes (groupOf (given .self)) (given .i) (bits (given .ring)) (c .before .before .before .before .meets .ensures) (c .before .before .before .if1 .taken) (c .before .before .with .ensures) (c .before .union .ensures) (c .without .ensures)
+    let tried = c .before .before .before in
+    let given = tried .before .before .args in
+    joined-takes (groupOf (given .self)) (given .i) (bits (given .ring)) (tried .before .meets .ensures) (tried .if1 .taken)
+    (c .before .before .with .ensures) (c .before .union .ensures) (c .without .ensures)
 
 returns-2 : tie.Need-returns-2
 returns-2 c =

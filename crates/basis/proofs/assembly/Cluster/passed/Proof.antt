@@ -41,14 +41,18 @@ next-requires-2 c κs = search needs
 
 loop-less : tie.Need-loop-less Inv-loop μ-loop
 loop-less c =
-    omega (arith, next-rises maxBonds _ (c .before .before .before .before .loop .i) _ (c .before .before .before .loop-test .taken) (c .next2 .ensures), c .next2 .ensures .within)
+    let at = c .before .before .before .before in
+    let taken = c .before .before .before .loop-test .taken in
+    omega (arith, next-rises maxBonds _ (at .loop .i) _ taken (c .next2 .ensures), c .next2 .ensures .within)
 
 loop-again : tie.Need-loop-again Inv-loop μ-loop
 loop-again c =
     let at = c .before .before .before .before in
     let start = at .before .before in
-    let there = at .loop .inv .fewer (at .loop .i) (at .loop .inv .next (c .before .before .before .loop-test .taken)) in
-    passing-turn (at .loop .inv) (c .before .before .before .loop-test .taken) (ring-at (start .args .t2) (at .loop .i) (start .pre .1 (at .loop .i) there)) (c .before .joined .ensures) (c .next2 .ensures)
+    let taken = c .before .before .before .loop-test .taken in
+    let there = at .loop .inv .fewer (at .loop .i) (at .loop .inv .next taken) in
+    let ring = ring-at (start .args .t2) (at .loop .i) (start .pre .1 (at .loop .i) there) in
+    passing-turn (at .loop .inv) taken ring (c .before .joined .ensures) (c .next2 .ensures)
 
 returns : tie.Need-returns Inv-loop μ-loop
 returns c =

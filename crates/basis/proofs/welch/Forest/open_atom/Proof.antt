@@ -35,7 +35,9 @@ is-open-requires : tie.Need-is-open-requires Inv-loop μ-loop
 is-open-requires c κs = search needs
 
 returns : tie.Need-returns Inv-loop μ-loop
-returns c = record { within = omega arith; here = λ l. sym (c .before .is-open .ensures) ∙ c .if1 .taken; none-before = c .before .before .before .before .before .loop .inv .1 }
+returns c =
+    let at = c .before .before .before .before .before in
+    record { within = omega arith; here = λ l. sym (c .before .is-open .ensures) ∙ c .if1 .taken; none-before = at .loop .inv .1 }
 
 add-a : tie.Need-add-a Inv-loop μ-loop
 add-a c = search needs
@@ -47,7 +49,8 @@ loop-again : tie.Need-loop-again Inv-loop μ-loop
 loop-again c = (omega arith, below-more _ _ (c .before .before .before .before .before .loop .inv .1) (sym (c .before .is-open .ensures) ∙ c .if1 .left))
 
 returns-2 : tie.Need-returns-2 Inv-loop μ-loop
-returns-2 c = record { within = omega arith; here = λ l. absurd (omega arith); none-before = λ a l. c .before .loop .inv .1 a (omega arith) }
+returns-2 c =
+    record { within = omega arith; here = λ l. absurd (omega arith); none-before = λ a l. c .before .loop .inv .1 a (omega arith) }
 
 pub open-atom-spec : {M : Type 1} → statement M
 open-atom-spec =

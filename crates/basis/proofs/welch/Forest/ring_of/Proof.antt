@@ -47,7 +47,9 @@ loop-less : tie.Need-loop-less Inv-loop μ-loop
 loop-less c = search needs
 
 loop-again : tie.Need-loop-again Inv-loop μ-loop
-loop-again c = let at = c .before .before .before .before .before in (omega arith, ring-turn _ _ _ (at .loop .a) (at .loop .inv .1) (c .before .has .ensures) (c .with-if .ensures))
+loop-again c =
+    let at = c .before .before .before .before .before in
+    (omega arith, ring-turn _ _ _ (at .loop .a) (at .loop .inv .1) (c .before .has .ensures) (c .with-if .ensures))
 
 returns : tie.Need-returns Inv-loop μ-loop
 returns c = c .before .loop .inv .1 ∙ ap (ringAt _ _ _) (omega arith)

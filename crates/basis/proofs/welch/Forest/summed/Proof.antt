@@ -9,7 +9,7 @@ use Rattle.basis.proofs.Replacing.{Replaced, replaced-none, replaced-mo
 use lib.ListN.{length, length-set}
 use mathlib.Core.Path.{_≡_, refl}
 use native.Mathlib.Nat.{le-refl}
-use Rattle.basis.proofs.Growing.{summed-turn}
+use Rattle.basis.proofs.Summing.{summed-turn}
 use Rattle.sets.specs.Bond.{bits}
 use Rattle.basis.proofs.welch.Forest.summed.Statement.{statement}
 use Rattle.basis.proofs.welch.Forest.summed.Tie as tie
@@ -57,7 +57,9 @@ loop-again : tie.Need-loop-again Inv-loop μ-loop
 loop-again c =
     let at = c .before .before .before .before in
     let given = at .before .before .before .args in
-    (omega arith, simp length-set (at .loop .inv .1), replaced-more (omega arith) (at .loop .inv .2) (summed-turn (rowAt (given .self .rows)) (given .atom) (given .bond) (at .loop .a) (at .loop .inv .2 .left (at .loop .a) (le-refl _)) refl (c .before .has .ensures) (c .sum-if .ensures)))
+    let still = at .loop .inv .2 .left (at .loop .a) (le-refl _) in
+    let row = summed-turn (rowAt (given .self .rows)) (given .atom) (given .bond) (at .loop .a) still refl (c .before .has .ensures) (c .sum-if .ensures) in
+    (omega arith, simp length-set (at .loop .inv .1), replaced-more (omega arith) (at .loop .inv .2) row)
 
 returns : tie.Need-returns Inv-loop μ-loop
 returns c = λ a l. c .before .loop .inv .2 .done a (omega arith)

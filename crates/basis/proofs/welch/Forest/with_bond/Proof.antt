@@ -5,7 +5,7 @@ use native.Mathlib.Omega.{arith}
 use lib.ListN.{length}
 use borrow.Author.Needs.{needs}
 use Rattle.basis.specs.Steps.Tried.{chosen, closed}
-use Rattle.basis.proofs.Growing.{labelled-set, none-of-all}
+use Rattle.basis.proofs.Summing.{labelled-set, none-of-all}
 use Rattle.basis.proofs.welch.Forest.with_bond.Statement.{statement}
 use Rattle.basis.proofs.welch.Forest.with_bond.Tie as tie
 
@@ -34,7 +34,8 @@ returns c =
 
 returns-2 : tie.Need-returns-2
 returns-2 c =
-    closed (none-of-all (c .before .before .if1 .left) (c .before .before .before .before .before .open-atom .ensures)) (λ a l. refl) (λ a l. refl) (c .with .ensures)
+    let found = c .before .before .before .before .before in
+    closed (none-of-all (c .before .before .if1 .left) (found .open-atom .ensures)) (λ a l. refl) (λ a l. refl) (c .with .ensures)
 
 pub with-bond-spec : {M : Type 1} → statement M
 with-bond-spec =

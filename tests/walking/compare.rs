@@ -1,0 +1,210 @@
+//! Starts a program on each input and compares what it prints with what the search says.
+
+use crate::protocol::{hex, records, Piece, Program, Search};
+use crate::set::{batches, Batch, Wanted};
+use std::io::{Read, Write};
+use std::process::{Command, ExitStatus, Stdio};
+use std::sync::mpsc::channel;
+use std::thread;
+use std::time::{Duration, Instant};
+
+/// What a run of the program gave.
+struct Ran {
+    output: Vec<u8>,
+    status: ExitStatus,
+}
+
+/// Compares the program on all inputs; prints the first difference, or what was compared, and says whether all agree.
+pub fn compare(program: Program, command: &[String], wanted: &Wanted, patience: Duration) -> bool {
+    let start = Instant::now();
+    let batches = batches(program, wanted);
+    let made = start.elapsed();
+    let mut search = Search::new(None);
+    let mut count = 0;
+    let mut printed = 0;
+    for batch in &batches {
+        let ran = run(command, &batch.bytes, patience, || {
+            search.text(program, &batch.bytes)
+        });
+        let (ran, expected) = match ran {
+            Ok(both) => both,
+            Err(fault) => {
+                println!("{}, input \"{}\": {fault}", program.name(), batch.name);
+                return false;
+            }
+        };
+        if let Some(difference) = difference(program, batch, &expected, &ran.output) {
+            println!("{difference}");
+            println!("  the program ended with {}", ran.status);
+            return false;
+        }
+        if ran.status.code().is_none() {
+            println!(
+                "{}, input \"{}\": the text agrees, but the program ended with {}",
+                program.name(),
+                batch.name,
+                ran.status
+            );
+            return false;
+        }
+        count += records(program, &batch.bytes).0.len();
+        printed += ran.output.len();
+    }
+    println!(
+        "{} agrees: {} inputs, {count} records, {printed} bytes printed, seed {}; {:.1} s, {:.1} s of it to make the tables",
+        program.name(),
+        batches.len(),
+        wanted.seed,
+        start.elapsed().as_secs_f32(),
+        made.as_secs_f32()
+    );
+    true
+}
+
+/// Runs the command on an input, and meanwhile works out what it should print.
+fn run<T>(
+    command: &[String],
+    input: &[u8],
+    patience: Duration,
+    meanwhile: impl FnOnce() -> T,
+) -> Result<(Ran, T), String> {
+    let mut child = Command::new(&command[0])
+        .args(&command[1..])
+        .stdin(Stdio::piped())
+        .stdout(Stdio::piped())
+        .spawn()
+        .map_err(|fault| format!("{} does not start: {fault}", command[0]))?;
+    let (mut to, mut from) = match (child.stdin.take(), child.stdout.take()) {
+        (Some(to), Some(from)) => (to, from),
+        _ => return Err("the program has no pipes".into()),
+    };
+    let input = input.to_vec();
+    // A program may stop reading early, so a broken pipe is no fault of its own.
+    let writer = thread::spawn(move || drop(to.write_all(&input)));
+    let (tell, told) = channel();
+    thread::spawn(move || {
+        let mut output = Vec::new();
+        let read = from.read_to_end(&mut output);
+        drop(tell.send(read.map(|_| output)));
+    });
+    let expected = meanwhile();
+    let Ok(read) = told.recv_timeout(patience) else {
+        drop(child.kill());
+        drop(child.wait());
+        return Err(format!(
+            "no end of the output within {} s",
+            patience.as_secs()
+        ));
+    };
+    let output = read.map_err(|fault| format!("the output cannot be read: {fault}"))?;
+    let status = child
+        .wait()
+        .map_err(|fault| format!("no exit status: {fault}"))?;
+    drop(writer.join());
+    Ok((Ran { output, status }, expected))
+}
+
+/// The first line in which the output differs from what is expected, with the table that shows it.
+fn difference(
+    program: Program,
+    batch: &Batch,
+    expected: &[Piece],
+    output: &[u8],
+) -> Option<String> {
+    let output = String::from_utf8_lossy(output);
+    let mut got = output.split_inclusive('\n');
+    let mut number = 0;
+    for piece in expected {
+        for line in piece.text.split_inclusive('\n') {
+            number += 1;
+            let other = got.next().unwrap_or("");
+            if line != other {
+                return Some(described(program, batch, piece.record, number, line, other));
+            }
+        }
+    }
+    got.next()
+        .map(|more| described(program, batch, None, number + 1, "", more))
+}
+
+fn described(
+    program: Program,
+    batch: &Batch,
+    record: Option<usize>,
+    number: usize,
+    line: &str,
+    other: &str,
+) -> String {
+    let mut text = format!(
+        "{}, input \"{}\", line {number} of the output differs\n",
+        program.name(),
+        batch.name
+    );
+    if let Some(place) = record {
+        let record = &records(program, &batch.bytes).0[place];
+        let note = batch.notes.get(place).copied().unwrap_or("of this input");
+        text += &format!("  record   {} ({note})\n", place + 1);
+        text += &format!(
+            "  atoms    {}\n  bonds    {}\n",
+            record.table.atoms,
+            record.table.shown()
+        );
+        if program == Program::Vectors {
+            text += &format!(
+                "  room     {}\n",
+                record
+                    .room
+                    .map_or("not said".into(), |room| room.to_string())
+            );
+        }
+        let mut bytes = hex(&record.bytes);
+        if bytes.len() > 400 {
+            bytes.truncate(400);
+            bytes += "..";
+        }
+        text += &format!("  bytes    {bytes}\n");
+    }
+    if record.is_none() && batch.bytes.len() <= 200 {
+        text += &format!("  input    {}\n", hex(&batch.bytes));
+    }
+    if program == Program::Vectors {
+        text += &format!(
+            "  entry    {}\n",
+            line.split_whitespace().next().unwrap_or("none")
+        );
+    }
+    let same = line
+        .chars()
+        .zip(other.chars())
+        .take_while(|(a, b)| a == b)
+        .count();
+    text += &format!(
+        "  differs  from character {}\n  expected {}\n  got      {}",
+        same + 1,
+        near(line, same),
+        near(other, same)
+    );
+    text
+}
+
+/// A line shown about a place: its start, and some characters before and after the place.
+fn near(line: &str, place: usize) -> String {
+    let characters: Vec<char> = line.chars().collect();
+    let shown = |from: usize, to: usize| {
+        characters[from.min(characters.len())..to.min(characters.len())]
+            .iter()
+            .collect::<String>()
+    };
+    let mut text = if place <= 80 {
+        shown(0, place + 80)
+    } else {
+        shown(0, 20) + " .. " + &shown(place - 40, place + 80)
+    };
+    if characters.len() > place + 80 {
+        text += " ..";
+    }
+    if line.is_empty() {
+        text = "nothing".into();
+    }
+    text.escape_default().to_string()
+}

@@ -1,0 +1,292 @@
+//! What the programs read and print.
+//!
+//! A record is field 10 (hex) with the atom count in one byte, then field 11 with the bond bytes. `ringline` prints what
+//! docs/SCOPE.md says. `vectors` may find a field 1f (hex) after field 11, two bytes, high byte first: the room, the number of
+//! items that every list-writing entry is lent. Without it the room is ROOM_UNSAID. No room is above MOST_ROOM.
+//!
+//! `vectors` prints for each record a line with its number from 1, then, words parted by single spaces:
+//!
+//! ```text
+//! check NUMBER COUNT
+//! basis NUMBER COUNT and every lent word
+//! assemblies NUMBER COUNT and every lent byte
+//! all, reduced, smallest like basis
+//! label NUMBER COUNT and all lent bytes as one hex word, absent where the room is 0
+//! sidecar like label
+//! lookup SIZE and the words handed back, for the sizes 0 and 3 to 8
+//! ```
+//!
+//! Numbers, counts and sizes are decimal; lent words and assemblies' bytes are lower-case hex without leading zeros; label
+//! and sidecar have two digits a byte. Every lent element is printed after the call, the untouched rest too: word i is
+//! lent as WORD_LENT + i, byte i as BYTE_LENT + i modulo 256. The size lookup is given the whole lent list of the smallest
+//! basis first and the whole lent list of all rings second, both as they are after their calls.
+//! A record cut short, or a field of another tag or length, prints the record's number and `frame` and ends the output.
+
+use crate::answers::{field, lookup, outcome, Answer, Found};
+use crate::table::Table;
+use crate::wrong::Wrong;
+use std::fmt::Write;
+use std::rc::Rc;
+
+/// The most bytes that `ringline` reads.
+pub const MOST_INPUT: usize = 32_768;
+/// One word more than all rings of a table can need.
+pub const MOST_ROOM: usize = 6_548;
+pub const ROOM_UNSAID: usize = 64;
+const ATOMS_TAG: u8 = 0x10;
+const BONDS_TAG: u8 = 0x11;
+const ROOM_TAG: u8 = 0x1f;
+const WORD_LENT: u64 = 0xa5a5_0000_0000_0000;
+const BYTE_LENT: usize = 0xa5;
+const SIZES_LOOKED_UP: [u32; 7] = [0, 3, 4, 5, 6, 7, 8];
+
+#[derive(Clone, Copy, PartialEq)]
+pub enum Program {
+    Ringline,
+    Vectors,
+}
+
+impl Program {
+    pub fn called(name: &str) -> Option<Program> {
+        [Program::Ringline, Program::Vectors]
+            .into_iter()
+            .find(|program| program.name() == name)
+    }
+
+    pub fn name(self) -> &'static str {
+        match self {
+            Program::Ringline => "ringline",
+            Program::Vectors => "vectors",
+        }
+    }
+}
+
+/// A record of the input: its table, its room if it says one, and its bytes.
+pub struct Record {
+    pub table: Table,
+    pub room: Option<usize>,
+    pub bytes: Vec<u8>,
+}
+
+/// The bytes of a record.
+pub fn record_bytes(table: &Table, room: Option<usize>) -> Vec<u8> {
+    let mut bytes = field(ATOMS_TAG, vec![table.atoms as u8]);
+    bytes.extend(field(BONDS_TAG, table.bytes.clone()));
+    if let Some(room) = room {
+        bytes.extend(field(ROOM_TAG, (room as u16).to_be_bytes().to_vec()));
+    }
+    bytes
+}
+
+/// The field with a tag at the start of the input, and what follows it.
+fn take_field(input: &[u8], tag: u8) -> Option<(&[u8], &[u8])> {
+    let length = usize::from(u16::from_be_bytes([*input.get(1)?, *input.get(2)?]));
+    let content = input.get(3..3 + length)?;
+    (input[0] == tag).then_some((content, &input[3 + length..]))
+}
+
+/// The record at the start of the input, and what follows it.
+fn take_record(program: Program, input: &[u8]) -> Option<(Record, &[u8])> {
+    let (atoms, rest) = take_field(input, ATOMS_TAG)?;
+    let &[atoms] = atoms else { return None };
+    let (bonds, mut rest) = take_field(rest, BONDS_TAG)?;
+    let mut room = None;
+    if program == Program::Vectors && rest.first() == Some(&ROOM_TAG) {
+        let (said, after) = take_field(rest, ROOM_TAG)?;
+        let &[high, low] = said else { return None };
+        room = Some(usize::from(u16::from_be_bytes([high, low])));
+        rest = after;
+    }
+    let table = Table {
+        atoms: u64::from(atoms),
+        bytes: bonds.to_vec(),
+    };
+    Some((
+        Record {
+            table,
+            room,
+            bytes: input[..input.len() - rest.len()].to_vec(),
+        },
+        rest,
+    ))
+}
+
+/// The whole records of the input, and whether something else follows them.
+pub fn records(program: Program, mut input: &[u8]) -> (Vec<Record>, bool) {
+    let mut records = Vec::new();
+    while !input.is_empty() {
+        let Some((record, rest)) = take_record(program, input) else {
+            return (records, true);
+        };
+        records.push(record);
+        input = rest;
+    }
+    (records, false)
+}
+
+/// A part of the printed text, and the place of the record that it answers. It ends with a line feed.
+pub struct Piece {
+    pub record: Option<usize>,
+    pub text: String,
+}
+
+/// The search as the programs use it, with an error put in on demand. It keeps what it found last, since records that
+/// differ only in their room follow each other.
+pub struct Search {
+    wrong: Option<Wrong>,
+    last: Option<(Table, Rc<Found>)>,
+}
+
+impl Search {
+    pub fn new(wrong: Option<Wrong>) -> Search {
+        Search { wrong, last: None }
+    }
+
+    fn found(&mut self, table: &Table) -> Rc<Found> {
+        if let Some((known, found)) = &self.last {
+            if known == table {
+                return found.clone();
+            }
+        }
+        let mut found = Found::of(table);
+        if let Some(wrong) = self.wrong {
+            wrong.spoil(table, &mut found);
+        }
+        let found = Rc::new(found);
+        self.last = Some((table.clone(), found.clone()));
+        found
+    }
+
+    /// What a program prints for an input.
+    pub fn text(&mut self, program: Program, input: &[u8]) -> Vec<Piece> {
+        let mut pieces = match program {
+            Program::Ringline => self.ringline_text(input),
+            Program::Vectors => self.vectors_text(input),
+        };
+        if let Some(wrong) = self.wrong {
+            for piece in &mut pieces {
+                piece.text = wrong.spoil_text(&piece.text);
+            }
+        }
+        pieces
+    }
+
+    fn ringline_text(&mut self, input: &[u8]) -> Vec<Piece> {
+        if input.len() > MOST_INPUT {
+            return vec![Piece {
+                record: None,
+                text: "long\n".into(),
+            }];
+        }
+        let (records, broken) = records(Program::Ringline, input);
+        let mut pieces = vec![Piece {
+            record: None,
+            text: "rings 1\n".into(),
+        }];
+        for (place, record) in records.iter().enumerate() {
+            let found = self.found(&record.table);
+            let number = found.refusal_of_rings();
+            let label = if number == 0 {
+                hex(&found.label)
+            } else {
+                "-".into()
+            };
+            pieces.push(Piece {
+                record: Some(place),
+                text: format!("{} {number} {label}\n", place + 1),
+            });
+        }
+        let n = records.len();
+        let last = if broken {
+            format!("{} frame\n", n + 1)
+        } else {
+            format!("end {n}\n")
+        };
+        pieces.push(Piece {
+            record: None,
+            text: last,
+        });
+        pieces
+    }
+
+    fn vectors_text(&mut self, input: &[u8]) -> Vec<Piece> {
+        let (records, broken) = records(Program::Vectors, input);
+        let mut pieces = Vec::new();
+        for (place, record) in records.iter().enumerate() {
+            let found = self.found(&record.table);
+            let room = record.room.unwrap_or(ROOM_UNSAID);
+            let text = format!("{}\n{}", place + 1, vectors_answers(&found, room));
+            pieces.push(Piece {
+                record: Some(place),
+                text,
+            });
+        }
+        if broken {
+            pieces.push(Piece {
+                record: None,
+                text: format!("{} frame\n", records.len() + 1),
+            });
+        }
+        pieces
+    }
+}
+
+/// The lines that `vectors` prints for a table after the record's number: the whole protocol of its answers.
+fn vectors_answers(found: &Found, room: usize) -> String {
+    let words = || {
+        (0..room as u64)
+            .map(|i| WORD_LENT + i)
+            .collect::<Vec<u64>>()
+    };
+    let bytes = || {
+        (0..room)
+            .map(|i| (BYTE_LENT + i) as u8)
+            .collect::<Vec<u8>>()
+    };
+    let own = found.refusal;
+    let rings = found.refusal_of_rings();
+    let all = outcome(rings, &found.all, words());
+    let smallest = outcome(rings, &found.smallest, words());
+    let count = if own == 0 { found.basis.len() } else { 0 };
+    let mut text = format!("check {own} {count}\n");
+    put_items(&mut text, "basis", &outcome(own, &found.basis, words()));
+    put_items(
+        &mut text,
+        "assemblies",
+        &outcome(own, &found.assemblies, bytes()),
+    );
+    put_items(&mut text, "all", &all);
+    put_items(&mut text, "reduced", &outcome(own, &found.reduced, words()));
+    put_items(&mut text, "smallest", &smallest);
+    put_bytes(&mut text, "label", &outcome(rings, &found.label, bytes()));
+    put_bytes(&mut text, "sidecar", &outcome(own, &found.sidecar, bytes()));
+    for size in SIZES_LOOKED_UP {
+        let _ = write!(text, "lookup {size}");
+        for word in lookup(&smallest.lent, &all.lent, size) {
+            let _ = write!(text, " {word:x}");
+        }
+        text.push('\n');
+    }
+    text
+}
+
+fn put_items<T: std::fmt::LowerHex>(text: &mut String, entry: &str, answer: &Answer<T>) {
+    let _ = write!(text, "{entry} {} {}", answer.number, answer.count);
+    for item in &answer.lent {
+        let _ = write!(text, " {item:x}");
+    }
+    text.push('\n');
+}
+
+fn put_bytes(text: &mut String, entry: &str, answer: &Answer<u8>) {
+    let _ = write!(text, "{entry} {} {}", answer.number, answer.count);
+    if !answer.lent.is_empty() {
+        let _ = write!(text, " {}", hex(&answer.lent));
+    }
+    text.push('\n');
+}
+
+/// Bytes in lower-case hex, two digits each.
+pub fn hex(bytes: &[u8]) -> String {
+    bytes.iter().map(|byte| format!("{byte:02x}")).collect()
+}
