@@ -1,0 +1,2 @@
+-- The three demands as theorems.
+pub mod Demands

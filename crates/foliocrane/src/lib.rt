@@ -1,0 +1,87 @@
+// The library's face: every entry in one place, for Rattle, C, Rust and Python. Each takes any table, an atom count and two bytes a
+// bond, and has the contract of the entry that it calls: number, count and every element of the lent list, for every input.
+// include/foliocrane.h declares them for C. What they promise together stands in specs/Demands.antt.
+use table::Answer;
+ghost use mathlib.Core.Path.{_≡_};
+ghost use mathlib.Core.List.{[]};
+ghost use lib.ListN.{length};
+ghost use Rattle.lookup.specs.Lookup as lookups;
+ghost use Rattle.definitions.specs.Table.{table as tableOf, refusal};
+ghost use Rattle.definitions.specs.Basis.{basisRings};
+ghost use Rattle.definitions.specs.Assembly.{assemblies};
+ghost use Rattle.definitions.specs.AllRings.{allRings};
+ghost use Rattle.definitions.specs.Smallest.{smallestBasis};
+ghost use Rattle.definitions.specs.Reduced.{reducedBasis};
+ghost use Rattle.definitions.specs.Label.{labelOf, sidecarOf};
+ghost use Rattle.definitions.specs.Answer.{outcomeOf, outcome, checked, refusalOfRings};
+
+// The table check: 0 and the number of basis rings, or a refusal.
+#[no_mangle]
+pub extern "C" fn foliocrane_check(atoms: u64, bonds: &[u8]) -> Answer
+    ensures { λ r. ⌜ outcomeOf (r .number) (r .count) [] ≡ checked (refusal (tableOf atoms (now (bonds .entry)))) (length (basisRings (tableOf atoms (now (bonds .entry))))) [] ⌝ }
+{
+    table::check(atoms, bonds)
+}
+
+// The basis rings, in order of their closure bonds, as words.
+#[no_mangle]
+pub extern "C" fn foliocrane_basis_rings(atoms: u64, bonds: &[u8], out: &mut [u64]) -> Answer
+    ensures { λ r. ⌜ outcomeOf (r .number) (r .count) (now (out .exit)) ≡ outcome (refusal (tableOf atoms (now (bonds .entry)))) (basisRings (tableOf atoms (now (bonds .entry)))) (now (out .entry)) ⌝ }
+{
+    basis::basis_rings(atoms, bonds, out)
+}
+
+// The assembly of each basis ring, one byte a ring.
+#[no_mangle]
+pub extern "C" fn foliocrane_assemblies(atoms: u64, bonds: &[u8], out: &mut [u8]) -> Answer
+    ensures { λ r. ⌜ outcomeOf (r .number) (r .count) (now (out .exit)) ≡ outcome (refusal (tableOf atoms (now (bonds .entry)))) (assemblies (tableOf atoms (now (bonds .entry)))) (now (out .entry)) ⌝ }
+{
+    basis::assemblies(atoms, bonds, out)
+}
+
+// All rings, by size, then by the bond set read as a number, as words.
+#[no_mangle]
+pub extern "C" fn foliocrane_all_rings(atoms: u64, bonds: &[u8], out: &mut [u64]) -> Answer
+    ensures { λ r. ⌜ outcomeOf (r .number) (r .count) (now (out .exit)) ≡ outcome (refusalOfRings (tableOf atoms (now (bonds .entry)))) (allRings (tableOf atoms (now (bonds .entry)))) (now (out .entry)) ⌝ }
+{
+    rings::all_rings(atoms, bonds, out)
+}
+
+// The smallest basis, as taken from the list of all rings, as words.
+#[no_mangle]
+pub extern "C" fn foliocrane_smallest_basis(atoms: u64, bonds: &[u8], out: &mut [u64]) -> Answer
+    ensures { λ r. ⌜ outcomeOf (r .number) (r .count) (now (out .exit)) ≡ outcome (refusalOfRings (tableOf atoms (now (bonds .entry)))) (smallestBasis (tableOf atoms (now (bonds .entry)))) (now (out .entry)) ⌝ }
+{
+    rings::smallest_basis(atoms, bonds, out)
+}
+
+// The reduced basis of 000, as words. It depends on the numbering, and never enters a label.
+#[no_mangle]
+pub extern "C" fn foliocrane_reduced_basis(atoms: u64, bonds: &[u8], out: &mut [u64]) -> Answer
+    ensures { λ r. ⌜ outcomeOf (r .number) (r .count) (now (out .exit)) ≡ outcome (refusal (tableOf atoms (now (bonds .entry)))) (reducedBasis (tableOf atoms (now (bonds .entry)))) (now (out .entry)) ⌝ }
+{
+    reduced::reduced_basis(atoms, bonds, out)
+}
+
+// The label.
+#[no_mangle]
+pub extern "C" fn foliocrane_label(atoms: u64, bonds: &[u8], out: &mut [u8]) -> Answer
+    ensures { λ r. ⌜ outcomeOf (r .number) (r .count) (now (out .exit)) ≡ outcome (refusalOfRings (tableOf atoms (now (bonds .entry)))) (labelOf (tableOf atoms (now (bonds .entry)))) (now (out .entry)) ⌝ }
+{
+    label::label(atoms, bonds, out)
+}
+
+// The sidecar: the reduced basis in a field of its own.
+#[no_mangle]
+pub extern "C" fn foliocrane_sidecar(atoms: u64, bonds: &[u8], out: &mut [u8]) -> Answer
+    ensures { λ r. ⌜ outcomeOf (r .number) (r .count) (now (out .exit)) ≡ outcome (refusal (tableOf atoms (now (bonds .entry)))) (sidecarOf (tableOf atoms (now (bonds .entry)))) (now (out .entry)) ⌝ }
+{
+    label::sidecar(atoms, bonds, out)
+}
+
+// The part of the first list, or else of the second, whose sets have a size. It hands back a part of a lent list, so it is for Rattle alone.
+pub fn of_size<'a>(first: &'a [u64], second: &'a [u64], size: u64) -> &'a [u64]
+    ensures { λ r. ⌜ lookups.lent r ≡ lookups.ofSize size (lookups.lent (first .entry)) (lookups.lent (second .entry)) ⌝ }
+{
+    lookup::of_size(first, second, size)
+}

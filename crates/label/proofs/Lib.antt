@@ -1,0 +1,15 @@
+-- The laws of this crate's text and numbers.
+--     Appending    text that grows in a lent list
+--     Bytes        the bytes of numbers
+--     Tagging      tagged fields
+--     Counting     the sets of each size, and the histogram
+--     Pairing      the pairs of the assemblies, put in order
+--     Handing      the answers of the steps below, handed on
+--     Labelling    what is worked out of a table makes its label
+pub mod Appending
+pub mod Bytes
+pub mod Tagging
+pub mod Counting
+pub mod Pairing
+pub mod Handing
+pub mod Labelling

@@ -1,0 +1,78 @@
+-- The length is told before a byte is written: what is short is refused, and what fits is written from the start.
+-- Assumes nothing.
+use mathlib.Core.Path.{_≡_, refl}
+use mathlib.Core.List.{List}
+use Prim.Native.Nat.{ℕ, _+_, _*_}
+use native.Mathlib.Omega.{arith}
+use lib.ListN.{length, take}
+use Rattle.table.proofs.Answers.{is-short, is-full}
+use Rattle.label.specs.Text.{labelText}
+use Rattle.label.proofs.Tagging.{label-bytes}
+use borrow.Author.Needs.{needs}
+use Rattle.label.proofs.text.write_label.Statement.{statement}
+use Rattle.label.proofs.text.write_label.Tie as tie
+
+abbrev start : tie.After-histogram-bytes2 → tie.Start
+start c = c .before .before .before .before
+
+-- the text that is wanted
+abbrev text : tie.Start → List ℕ
+text s = labelText (s .args .number) (s .args .rings .now) (s .args .smallest .now) (take (s .args .n) (s .args .pairs .now))
+
+-- the count is its length
+counted : (c : tie.After-histogram-bytes2)
+    → 13 + (c .before .histogram-bytes .result + c .histogram-bytes2 .result) + 2 * start c .args .n ≡ length (text (start c))
+counted c = label-bytes _ _ _ _ (c .before .histogram-bytes .ensures .0) (c .histogram-bytes2 .ensures .0) (start c .pre)
+
+histogram-bytes-requires : tie.Need-histogram-bytes-requires
+histogram-bytes-requires c κs = search needs
+
+histogram-bytes-requires-2 : tie.Need-histogram-bytes-requires-2
+histogram-bytes-requires-2 c κs = search needs
+
+add-sizes : tie.Need-add-sizes
+add-sizes c = search needs
+
+mul-count : tie.Need-mul-count
+mul-count c = search needs
+
+add-count : tie.Need-add-count
+add-count c = search needs
+
+add-count-2 : tie.Need-add-count-2
+add-count-2 c = search needs
+
+mul-count-2 : tie.Need-mul-count-2
+mul-count-2 c = search needs
+
+add-count-3 : tie.Need-add-count-3
+add-count-3 c = search needs
+
+returns : tie.Need-returns
+returns c = is-short (text (start (c .before))) _ {c = 0} refl (omega arith) (counted (c .before)) (c .if1 .taken)
+
+put-label-requires : tie.Need-put-label-requires
+put-label-requires c κs = let p = c .before .before in (start p .pre, omega (arith, counted p, c .before .if1 .left))
+
+same-length : tie.Need-same-length
+same-length c = search needs
+
+returns-2 : tie.Need-returns-2
+returns-2 c = let p = c .before .before .before .before .before in is-full (text (start p)) _ {c = 0} refl (omega arith) (counted p) (c .before .before .before .before .if1 .left) (c .before .before .put-label .ensures)
+
+pub write-label-spec : {M : Type 1} → statement M
+write-label-spec =
+    tie.close
+    (tie.spec
+    histogram-bytes-requires
+    histogram-bytes-requires-2
+    add-sizes
+    mul-count
+    add-count
+    add-count-2
+    mul-count-2
+    add-count-3
+    returns
+    put-label-requires
+    same-length
+    returns-2)

@@ -1,0 +1,49 @@
+// Tagged fields: one byte tag, two bytes length, and the content.
+use super::histogram::SIZES;
+use super::histogram::histogram_bytes;
+use super::histogram::put_histogram;
+use super::write::put_numbers;
+use super::write::put_tagged;
+ghost use mathlib.Core.Path.{_≡_};
+ghost use Prim.Native.Nat.{_+_, _≤_};
+ghost use lib.ListN.{length, take};
+ghost use Rattle.definitions.specs.Label.{bytesOfAll, field};
+ghost use Rattle.label.specs.Text.{Appended};
+ghost use Rattle.label.specs.Sizes.{lines};
+
+// The bytes of a field's length, and those before its content.
+const LENGTH: usize = 2;
+
+pub(crate) const HEAD: usize = 1 + LENGTH;
+
+// A field of the first n numbers of a list, each in so many bytes.
+pub(crate) fn put_number_field(
+    tag: u8,
+    width: usize,
+    numbers: &[u64],
+    n: usize,
+    out: &mut [u8],
+    at: usize,
+) -> usize
+    requires { ⌜ (width ≤ 8) × (n ≤ length (now numbers)) × (at + length (field tag (bytesOfAll width (take n (now numbers)))) ≤ length (now out)) ⌝ }
+    ensures { λ r. ⌜ Appended (now (out .entry)) at (field tag (bytesOfAll width (take n (now (numbers .entry))))) (now (out .exit)) r ⌝ }
+{
+    let next = put_tagged(tag, LENGTH, (n * width) as u64, out, at);
+    put_numbers(width, numbers, n, out, next)
+}
+
+// A field of a histogram.
+pub(crate) fn put_size_field(
+    tag: u8,
+    width: usize,
+    counts: &[usize; SIZES],
+    out: &mut [u8],
+    at: usize,
+) -> usize
+    requires { ⌜ (width ≤ 8) × (at + length (field tag (lines width (now counts))) ≤ length (now out)) ⌝ }
+    ensures { λ r. ⌜ Appended (now (out .entry)) at (field tag (lines width (now (counts .entry)))) (now (out .exit)) r ⌝ }
+{
+    let bytes = histogram_bytes(width, counts);
+    let next = put_tagged(tag, LENGTH, bytes as u64, out, at);
+    put_histogram(width, counts, out, next)
+}

@@ -1,0 +1,3 @@
+-- The definitions that the contracts of reduced cite beside those of `definitions`.
+pub mod Change
+pub mod Picked

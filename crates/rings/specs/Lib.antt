@@ -1,0 +1,9 @@
+-- The definitions that the contracts of this crate cite beside those of `definitions`.
+--     Found          the rings found so far, in order
+--     Gibbs          the combination of basis rings
+--     Elimination    the rings taken so far, and the sets kept to test the next
+--     Perceiving     what is worked out of a table
+pub mod Found
+pub mod Gibbs
+pub mod Elimination
+pub mod Perceiving
