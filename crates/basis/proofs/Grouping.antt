@@ -13,21 +13,16 @@ use lib.Dec.{eqb, ltb}
 use lib.ListN.{length, getD}
 use Rattle.sets.specs.Bits.{has, Sub, meet, put, with, without, IsNext, size}
 use Rattle.sets.specs.Ring.{room}
-use Rattle.sets.proofs.Laws.{has-and, has-or, has-zero, has-with, has-without}
+use Rattle.sets.proofs.Laws.{has-or, has-zero, has-with, has-without}
 use Rattle.sets.proofs.Size.{size-sub, sub-same}
-use Rattle.sets.proofs.Members.{common, apart}
+use Rattle.sets.proofs.Members.{common, apart, meet-of}
 use Rattle.sets.proofs.Machine.{put-below}
 use Rattle.definitions.specs.Assembly.{Linked}
 use Rattle.definitions.specs.Assembly.Linked.{same, by as shares}
-use Rattle.definitions.proofs.Tests.{by, clashes, eqb-self, and-both, both-and, not-failed, same-test, or-one}
+use Rattle.definitions.proofs.Tests.{by, clashes, eqb-self, and-both, same-test, or-one}
 use Rattle.definitions.proofs.Linking.{linked-trans}
 use Rattle.basis.specs.Clusters.{Group, joinedBy, Grouped, Apart, Pass}
 use Rattle.basis.proofs.Putting.{put-new, put-old, put-from}
-
--- two sets with a common member meet
-pub meets : (s t k : ℕ) → has s k ≡ true → has t k ≡ true → meet s t ≡ true
-meets s t k p q =
-    not-failed (meet s t) (λ e. clashes (both-and p q) (sym (has-and s t k) ∙ ap (λ (x : ℕ). has x k) (apart s t e) ∙ has-zero k))
 
 -- a ring that is left is one of those looked at, and no member
 left-all : {rs : List ℕ} {first all : ℕ} {g : Group} → Grouped rs first all g → (i : ℕ) → has (g .left) i ≡ true → has all i ≡ true
@@ -81,7 +76,7 @@ joins-linked {rs} {first} {all} {g} q i h e =
     let (k, a, b) = common (getD rs i 0) (g .bonds) e in
     let (j, m, c) = q .bond k b in
     let (in-all, linked, _) = q .member j m in
-    linked-trans linked (shares (q .inside j in-all) (q .inside i (left-all q i h)) (meets (getD rs j 0) (getD rs i 0) k c a) same)
+    linked-trans linked (shares (q .inside j in-all) (q .inside i (left-all q i h)) (meet-of (getD rs j 0) (getD rs i 0) k c a) same)
 
 pub grouped-join : {rs : List ℕ} {first all : ℕ} {g : Group} → Grouped rs first all g
     → (i : ℕ) → i < room → has (g .left) i ≡ true → meet (getD rs i 0) (g .bonds) ≡ true

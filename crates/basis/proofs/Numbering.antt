@@ -13,7 +13,7 @@ use Rattle.sets.specs.Bits.{has, IsNext}
 use Rattle.sets.specs.Ring.{bits, room}
 use Rattle.sets.specs.declared.ring.RingSet.{RingSet}
 use Rattle.sets.proofs.Laws.{ext}
-use Rattle.sets.proofs.Members.{common}
+use Rattle.sets.proofs.Members.{common, meet-of}
 use Rattle.definitions.specs.Search.{setOf}
 use Rattle.definitions.specs.Assembly.{share?, assemblyCount, Linked}
 use Rattle.definitions.specs.Assembly.Linked.{same, by as shares}
@@ -23,7 +23,6 @@ use Rattle.definitions.proofs.Linking.{number, first?, assembly-count, number-b
 use Rattle.basis.specs.Held.{noRings, membersOf, AssembliesOf}
 use Rattle.basis.specs.Clusters.{Group, Grouped, Apart, FirstWith}
 use Rattle.basis.specs.declared.assembly.Assemblies.{Assemblies}
-use Rattle.basis.proofs.Grouping.{meets}
 
 -- not below n and not n is above n
 above : (t : Bool) (n x : ℕ) → t && leb n x && not (t && eqb x n) ≡ t && leb (n + 1) x
@@ -104,7 +103,7 @@ module _ {rs : List ℕ} {sets : List RingSet} {n left : ℕ} (d : Divided rs se
           let there = number-left j m (omega (arith, linked-test rs first j first-below m .1 to, next-number)) in
           let (k, u, v) = common (getD rs i 0) (getD rs j 0) e in
           not-failed (has (g .members) j) (λ z.
-          clashes (meets (getD rs j 0) (g .bonds) k v (part k u))
+          clashes (meet-of (getD rs j 0) (g .bonds) k v (part k u))
           (a j (q .other j ∙ ap₂ (λ (x y : Bool). x && not y) there z)))
 
       number-member : (i : ℕ) → i < length rs → number rs i ≡ n → has (g .members) i ≡ true

@@ -8,20 +8,19 @@ use mathlib.Core.Bool.{Bool, true, false, not, _&&_}
 use mathlib.Core.List.{List, List·Memᴰ as In}
 use Prim.Native.Nat.{ℕ, _<_}
 use native.Mathlib.Nat.{pos-of-ne-zero}
-use lib.Bits.{bitAnd}
 use lib.Dec.{eqb}
 use lib.ListN.{length, getD}
 use borrow.Author.Tests.{eqb-true, eq-eqb}
-use Rattle.sets.specs.Bits.{has, Sub, meet}
-use Rattle.sets.proofs.Laws.{has-and, has-zero, lowest}
-use Rattle.sets.proofs.Members.{common}
+use Rattle.sets.specs.Bits.{has, Sub}
+use Rattle.sets.proofs.Laws.{lowest}
+use Rattle.sets.proofs.Members.{common, meet-of}
 use Rattle.definitions.specs.Search.{listed, unionOf}
 use Rattle.definitions.specs.Table.{Table, bonds}
 use Rattle.definitions.specs.Ring.{Even, Ring}
 use Rattle.definitions.specs.Basis.{Closure, closure?, basisRing, basisRings}
 use Rattle.definitions.specs.Assembly.{Linked, Linked.same, Linked.by as linked-by, assembliesOf, ringsIn, assemblies}
 use Rattle.definitions.specs.Smallest.{chosen, SumOf}
-use Rattle.definitions.proofs.Tests.{by, clashes, eqb-self, and-both, both-and}
+use Rattle.definitions.proofs.Tests.{by, eqb-self, and-both, both-and}
 use Rattle.definitions.proofs.Lists.{length-listed, listed-in, has-unionOf}
 use Rattle.definitions.proofs.Refusals.{Valid}
 use Rattle.definitions.proofs.Paths.{closure-test}
@@ -33,12 +32,6 @@ use Rattle.cycles.proofs.Evens.{member-some, even-top}
 use Rattle.cycles.proofs.BasisRings.{basis-at}
 use Rattle.cycles.proofs.EvenSums.{closesIn, Picks, ringSum, closure-tested, ring-sum-even, ring-sum-at, even-sum}
 use Rattle.cycles.proofs.BasisList.{placeOf, place-lt, place-ring, place-find, basis-rings-are-rings, chosen-at, rings-independent}
-
--- sets with a common member meet
-meet-of : (s t b : ℕ) → has s b ≡ true → has t b ≡ true → meet s t ≡ true
-meet-of s t b u v =
-    by (eqb (bitAnd s t) 0)
-    (λ e. clashes (has-and s t b ∙ both-and u v) (ap (λ (x : ℕ). has x b) (eqb-true (bitAnd s t) 0 e) ∙ has-zero b)) (λ e. ap not e)
 
 -- a condition that follows may be added
 guard : (a c d : Bool) → (a ≡ true → d ≡ true → c ≡ true) → a && d ≡ (a && c) && d

@@ -551,3 +551,9 @@ union-has s (t ∷ l) k (there i) h = has-or t (unionOf l) k ∙ ap (λ (b : Boo
 -- its members are those of the sets
 pub has-unionOf : (l : List ℕ) (k : ℕ) → (has (unionOf l) k ≡ true) ↔ ((s : ℕ) × In s l × (has s k ≡ true))
 has-unionOf l k = (union-found l k, λ r. union-has (r .0) l k (r .1) (r .2))
+
+-- what is kept of a list without repeats is without repeats
+pub fresh-keep : {A : Type 0} (p : A → Bool) {l : List A} → NoRepeats l → NoRepeats (keep p l)
+fresh-keep p fresh-none = rw (keep-nil p) fresh-none
+fresh-keep p (fresh-more {x} {l} n f) =
+    by (p x) (λ h. rw (keep-take p x l h) (fresh-more (λ i. n (keep-in p x l .0 i .0)) (fresh-keep p f))) (λ h. rw (keep-skip p x l h) (fresh-keep p f))

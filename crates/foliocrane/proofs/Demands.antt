@@ -1,15 +1,13 @@
 -- The three demands as theorems over the contracts of this crate's functions. Assumes nothing.
 use mathlib.Core.Path.{_≡_, refl, sym, ap, ap₂, subst, subst₂, _∙_}
-use mathlib.Core.Logic.{_↔_, _≢_}
-use mathlib.Core.Bool.{Bool, true, false}
+use mathlib.Core.Logic.{_≢_}
 use mathlib.Core.List.{List, List·Memᴰ as In}
 use Prim.Native.Nat.{ℕ, zero, suc, _≤_, _<_}
-use native.Mathlib.Omega.{arith}
 use lib.ListN.{length, getD, take, drop}
 use lib.Seq.{take-append-seam, drop-append-seam}
 use borrow.Author.Tests.{le-leb, lt-leb}
 use Rattle.definitions.specs.Table.{Table, refusal, ROOM}
-use Rattle.definitions.specs.Basis.{Closure, BasisRing, basisRing, basisRings}
+use Rattle.definitions.specs.Basis.{BasisRing, basisRings}
 use Rattle.definitions.specs.Assembly.{assemblies}
 use Rattle.definitions.specs.AllRings.{allRings}
 use Rattle.definitions.specs.Smallest.{smallestBasis}

@@ -2,17 +2,16 @@
 -- Assumes nothing.
 use mathlib.Core.Path.{_≡_}
 use mathlib.Core.Logic.{_↔_, _≢_}
-use mathlib.Core.Bool.{Bool, true, false}
-use mathlib.Core.List.{List, map, List·Memᴰ as In}
+use mathlib.Core.List.{List, List·Memᴰ as In}
 use Prim.Native.Nat.{ℕ, _≤_, _<_}
 use lib.ListN.{length, getD, take, drop}
 use Rattle.definitions.specs.Search.{count}
 use Rattle.definitions.specs.Table.{Table, ROOM}
 use Rattle.definitions.specs.Ring.{Ring}
-use Rattle.definitions.specs.Basis.{Closure, BasisRing, closure?, basisRings}
+use Rattle.definitions.specs.Basis.{BasisRing, closure?}
 use Rattle.definitions.specs.Assembly.{Linked, assemblies}
-use Rattle.definitions.specs.AllRings.{before, allRings}
-use Rattle.definitions.specs.Smallest.{SmallestBasis, smallestBasis}
+use Rattle.definitions.specs.AllRings.{before}
+use Rattle.definitions.specs.Smallest.{SmallestBasis}
 use Rattle.definitions.specs.Answer.{outcomeOf, outcome}
 use Rattle.definitions.proofs.Lists.{Sorted}
 

@@ -6,21 +6,19 @@ use Prim.Native.Nat.{ℕ, zero, suc, _+_, _-_, _≤_, _<_}
 use native.Mathlib.Omega.{arith}
 use borrow.Author.Tests.{lt-ltb, le-ltb}
 use lib.Dec.{eqb, ltb}
-use lib.ListN.{length, take, getD, List·getD-map}
+use lib.ListN.{length, getD, List·getD-map}
 use lib.Seq.{getD-take}
 use Rattle.sets.specs.Bits.{has}
 use Rattle.sets.specs.Bond as bond
 use Rattle.sets.specs.Ring as ring
-use Rattle.sets.specs.declared.bond.BondSet.{BondSet}
-use Rattle.sets.specs.declared.ring.RingSet.{RingSet}
-use Rattle.definitions.specs.Search.{listed, setOf, gather}
+use Rattle.definitions.specs.Search.{listed, gather}
 use Rattle.definitions.specs.Table.{Table}
 use Rattle.definitions.specs.Basis.{basisRings}
 use Rattle.definitions.specs.Assembly.{assembliesOf, assemblyCount, ringsIn}
 use Rattle.definitions.specs.Answer.{over}
 use Rattle.definitions.specs.Reduced.{reduced, reducedBasis}
-use Rattle.definitions.proofs.Lists.{count-le, listed-skip, listed-ext, has-setOf, gather-ext}
-use Rattle.definitions.proofs.Linking.{first?, assembly-count, length-assembled}
+use Rattle.definitions.proofs.Lists.{listed-skip, listed-ext, has-setOf, gather-ext}
+use Rattle.definitions.proofs.Linking.{length-assembled}
 use Rattle.reduced.specs.Picked.{ringAt, pickedBy}
 use Rattle.basis.specs.declared.basis.Basis.{Basis}
 use Rattle.basis.specs.declared.assembly.Assemblies.{Assemblies}

@@ -1,7 +1,7 @@
 -- Renumbered tables have as many rings of each size, since their rings are carried to each other and keep their size; and as many of each
 -- size in every smallest basis, since sums are carried to sums. Assumes nothing.
 use mathlib.Core.Path.{_≡_, refl, sym, ap, _∙_}
-use mathlib.Core.Bool.{Bool, true}
+use mathlib.Core.Bool.{true}
 use mathlib.Core.List.{List, map}
 use mathlib.Core.List.{List·Memᴰ as In, List·Memᴰ·head as here, List·Memᴰ·tail as there}
 use Prim.Native.Nat.{ℕ, _^_, _≤_, _<_}
@@ -15,8 +15,7 @@ use Rattle.definitions.specs.Ring.{Even}
 use Rattle.definitions.specs.AllRings.{allRings}
 use Rattle.definitions.specs.Smallest.{smallestBasis, SmallestBasis}
 use Rattle.definitions.specs.Label.{occurs}
-use Rattle.definitions.proofs.Tests.{by}
-use Rattle.definitions.proofs.Lists.{NoRepeats, fresh-none, fresh-more, keep-in, keep-nil, keep-take, keep-skip}
+use Rattle.definitions.proofs.Lists.{keep-in, fresh-keep}
 use Rattle.definitions.proofs.Rings.{all-rings-are, all-rings-sorted, all-rings-fresh}
 use Rattle.spans.proofs.Spans.{Span, none, skip, add, xor-cancel}
 use Rattle.spans.proofs.Counts.{upto, light, length-light, same-occurs}
@@ -29,12 +28,6 @@ use Rattle.renumbering.proofs.Matching.{Matches, matched-length}
 use Rattle.renumbering.proofs.Images.{image-xor, image-one, image-none, size-image}
 use Rattle.renumbering.proofs.Tables.{range-carried, renumbered-back}
 use Rattle.renumbering.proofs.Sets.{carried-here, ring-carried}
-
--- what is kept of a list without repeats is without repeats
-fresh-keep : {A : Type 0} (p : A → Bool) {l : List A} → NoRepeats l → NoRepeats (keep p l)
-fresh-keep p fresh-none = rw (keep-nil p) fresh-none
-fresh-keep p (fresh-more {x} {l} n f) =
-    by (p x) (λ h. rw (keep-take p x l h) (fresh-more (λ i. n (keep-in p x l .0 i .0)) (fresh-keep p f))) (λ h. rw (keep-skip p x l h) (fresh-keep p f))
 
 -- a sum of even sets is even
 pub span-even : (M : Table) {vs : List ℕ} {x : ℕ} → ((v : ℕ) → In v vs → Even M v) → Span vs x → Even M x

@@ -21,7 +21,7 @@ use Rattle.definitions.specs.Basis.{basisRing, basisRings, closure?}
 use Rattle.definitions.specs.Assembly.{assemblyCount, ringsIn}
 use Rattle.definitions.specs.AllRings.{allRings}
 use Rattle.definitions.specs.Smallest.{smallestBasis}
-use Rattle.definitions.specs.Label.{field, bytesOf, bytesOfAll, occurs, histogram, frerejacque, pairOf, assemblyPairs, labelOf, frerejacqueTag, ringsTag, smallestTag, assembliesTag}
+use Rattle.definitions.specs.Label.{field, bytesOfAll, occurs, histogram, frerejacque, pairOf, assemblyPairs, labelOf, frerejacqueTag, ringsTag, smallestTag, assembliesTag}
 use Rattle.definitions.proofs.Tests.{by}
 use Rattle.definitions.proofs.Lists.{count-le, length-listed, gather-ones, length-all}
 use Rattle.definitions.proofs.Sorting.{length-sort, occurs-absent}
@@ -29,7 +29,8 @@ use Rattle.definitions.proofs.Rings.{all-rings-are}
 use Rattle.definitions.proofs.Linking.{assembly-count, first?}
 use Rattle.spans.proofs.Taking.{taking-in}
 use Rattle.label.specs.Sizes.{line}
-use Rattle.label.proofs.Bytes.{length-bytesOf, length-bytesOfAll}
+use Rattle.label.proofs.Bytes.{length-bytesOfAll}
+use Rattle.label.proofs.Tagging.{length-field}
 use Rattle.label.proofs.Counting.{line-none, length-line-some}
 
 -- texts of at most w bytes, of which only those from 1 to b say something, have w bytes for each of b at most
@@ -85,11 +86,6 @@ assemblies-most M =
       length-listed (bonds M) (closure? M) (basisRing M),
       count-le (closure? M) (bonds M),
     )
-
--- a field has three bytes before its content
-length-field : (tag : ℕ) (content : List ℕ) → length (field tag content) ≡ 3 + length content
-unfolding field
-length-field tag content = omega (arith, length-append (bytesOf 2 (length content)) content, length-bytesOf 2 (length content))
 
 -- the smallest basis is taken from all rings
 taken : (M : Table) (s : ℕ) → In s (smallestBasis M) → In s (allRings M)

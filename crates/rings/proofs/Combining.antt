@@ -24,6 +24,7 @@ use Rattle.rings.specs.Gibbs.{group, splits?, least?, sumsHeld, Doubled,
 
 -- ---- the group is made: the old sets below place j are summed with the ring
 
+-- the old sets, followed by the sums of the first j of them
 pub record Doubling (start : List ℕ) (half ring : ℕ) (sums : List ℕ) (j : ℕ) : Type 0 where
   pub within : j ≤ half
   pub few : half + half ≤ sumsHeld
@@ -31,6 +32,7 @@ pub record Doubling (start : List ℕ) (half ring : ℕ) (sums : List ℕ) (j : 
   pub long : length sums ≡ sumsHeld
   pub list : take (half + j) sums ≡ take half start ++ group ring (take j start)
 
+-- before the first turn
 pub doubling-none : (start : List ℕ) (half ring : ℕ) → length start ≡ sumsHeld → half + half ≤ sumsHeld → Doubling start half ring start 0
 doubling-none start half ring l f = record { within = omega arith; few = f; lent = l; long = l; list = ap (λ k. take k start) {x = half + 0} {y = half} (omega arith) ∙ sym (append-nil (take half start)) }
 
@@ -70,6 +72,7 @@ module _ {start : List ℕ} {half ring : ℕ} {sums : List ℕ} {j : ℕ} (s : D
 
 -- ---- a sum is tested against its group
 
+-- a test whose negation passes fails
 not-true : (b : Bool) → not b ≡ true → b ≡ false
 not-true true h = sym h
 not-true false h = refl
@@ -101,10 +104,11 @@ module _ {sums : List ℕ} {half s j : ℕ} (u : Unsplit sums half s j) where
   }
 
 module _ {sums : List ℕ} {half ring : ℕ} (g : Grouped sums half ring) where
-  -- the old sets are as many as the group's
+  -- the first half are there
   held : length (take half sums) ≡ half
   held = length-take-le half sums (omega (arith, g .long, g .few))
 
+  -- so many are there
   group-length : length (group ring (take half sums)) ≡ half
   group-length = length-map (take half sums) (bitXor ring) ∙ held
 

@@ -3,7 +3,7 @@
 -- Assumes nothing.
 use mathlib.Core.Path.{_≡_, refl, sym, ap, ap₂, subst⁻¹, _∙_}
 use mathlib.Core.Logic.{_↔_, _⊎_, inl, inr, ⊎-elim}
-use mathlib.Core.Bool.{Bool, true, false, _&&_, not}
+use mathlib.Core.Bool.{true, false, _&&_, not}
 use mathlib.Core.List.{List, [], _∷_, _++_, Memᴰ·append-left, Memᴰ·append-right, Memᴰ·cast, Memᴰ·map, Memᴰ·of-map, Sublistᴰ, Sublistᴰ·slnil, Sublistᴰ·cons, Sublistᴰ·cons-cons}
 use mathlib.Core.List.{List·Memᴰ as In, List·Memᴰ·head as here, List·Memᴰ·tail as there, List·Memᴰ·not-nil as not-in-nil, List·Memᴰ·append-cases as in-append, List·Memᴰ·eq-of-singleton as eq-of-singleton}
 use Prim.Native.Nat.{ℕ, zero, suc, _<_, _≤_}
@@ -17,7 +17,7 @@ use borrow.Author.Tests.{eqb-true, eq-eqb}
 use Rattle.sets.specs.Bits.{Sub, sub}
 use Rattle.sets.proofs.Laws.{xor-assoc}
 use Rattle.sets.proofs.Size.{sub-test, test-sub, xor-zero}
-use Rattle.definitions.specs.Search.{keep, gather, sort}
+use Rattle.definitions.specs.Search.{gather, sort}
 use Rattle.definitions.specs.Table.{Table}
 use Rattle.definitions.specs.Ring.{Ring}
 use Rattle.definitions.specs.Basis.{basisRings}
@@ -25,7 +25,7 @@ use Rattle.definitions.specs.Assembly.{assemblyCount, ringsIn, tangled?}
 use Rattle.definitions.specs.AllRings.{before, allRings}
 use Rattle.definitions.specs.Smallest.{SumOf}
 use Rattle.definitions.proofs.Tests.{by, clashes, both-and, every-at, every-of}
-use Rattle.definitions.proofs.Lists.{NoRepeats, fresh-none, fresh-more, fresh-map, getD-in, in-getD, keep-nil, keep-take, keep-skip, keep-in, gather-in}
+use Rattle.definitions.proofs.Lists.{NoRepeats, fresh-none, fresh-more, fresh-map, getD-in, in-getD, keep-in, gather-in, fresh-keep}
 use Rattle.definitions.proofs.Sorting.{before-order, sort-in, length-sort, sort-sorted}
 use Rattle.definitions.proofs.Refusals.{Valid}
 use Rattle.definitions.proofs.Rings.{all-rings-unique}
@@ -45,13 +45,6 @@ fresh-append : {A : Type 0} {l m : List A} → NoRepeats l → NoRepeats m → (
 fresh-append fresh-none g h = g
 fresh-append (fresh-more {x} {l} n f) g h =
     fresh-more (λ i. ⊎-elim n (h x (here refl)) (in-append l i)) (fresh-append f g (λ y i j. h y (there i) j))
-
--- what a test keeps of one
-fresh-keep : {A : Type 0} (p : A → Bool) {l : List A} → NoRepeats l → NoRepeats (keep p l)
-fresh-keep p fresh-none = subst⁻¹ NoRepeats (keep-nil p) fresh-none
-fresh-keep p (fresh-more {x} {l} n f) =
-    by (p x) (λ h. subst⁻¹ NoRepeats (keep-take p x l h) (fresh-more (λ i. n (keep-in p x l .0 i .0)) (fresh-keep p f)))
-    (λ h. subst⁻¹ NoRepeats (keep-skip p x l h) (fresh-keep p f))
 
 -- some of them one after another, where no two have a common member
 fresh-gather : {A : Type 0} (n : ℕ) (f : ℕ → List A) → ((k : ℕ) → k < n → NoRepeats (f k))
@@ -204,6 +197,7 @@ module _ {M : Table} (valid : Valid M) where
   by-groups : (a : ℕ) → combined (rings a) ≡ gather (length (rings a)) (λ i. leastOf (groupOf (rings a) i) (groupOf (rings a) i))
   by-groups a = ap combined (sym (take-length (rings a))) ∙ combined-groups (rings a) (length (rings a)) (le-refl (length (rings a)))
 
+  -- so they are the rings of its groups
   combined-in : (a s : ℕ) → In s (combined (rings a)) ↔ (((i : ℕ) × InGroup M a i s) × Ring M s)
   combined-in a s = (
     λ m. let (i, h, j) = gather-in (length (rings a)) found s .0 (rw (by-groups a) at m) in

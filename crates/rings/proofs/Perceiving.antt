@@ -7,12 +7,13 @@ use Prim.Native.Nat.{ℕ, _+_, _<_, _≤_}
 use native.Mathlib.Nat.{le-antisymm, le-refl}
 use native.Mathlib.Decide.{le-ind}
 use native.Mathlib.Omega.{arith}
-use lib.ListN.{length, take, drop, getD, length-append, take-append-drop}
+use lib.ListN.{replicate, length, take, drop, getD, length-append, take-append-drop}
 use lib.Seq.{take-append-seam, length-take-le}
 use lib.Dec.{eqb, ltb}
 use borrow.Author.Tests.{lt-ltb, le-ltb, ltb-false}
 use Rattle.sets.specs.Bits.{has, size}
 use Rattle.sets.specs.Bond.{bits, room}
+use Rattle.sets.specs.Ring.{bits as ringBits}
 use Rattle.sets.specs.declared.bond.BondSet.{BondSet}
 use Rattle.definitions.specs.Search.{some?, setOf, gather, sort}
 use Rattle.definitions.specs.Table.{Table, refusal, TANGLED}
@@ -22,34 +23,30 @@ use Rattle.definitions.specs.AllRings.{before, allRings}
 use Rattle.definitions.specs.Smallest.{taking, smallestBasis}
 use Rattle.definitions.specs.Answer.{over, refusalOfRings}
 use Rattle.definitions.proofs.Tests.{none-at, some-ext, some-none, some-more, some-found, some-end}
-use Rattle.definitions.proofs.Lists.{has-setOf, size-setOf, listed-ext, gather-step, gather-zero, gather-ext}
+use Rattle.definitions.proofs.Lists.{has-setOf, listed-ext, gather-step, gather-zero, gather-ext}
 use Rattle.definitions.proofs.Sorting.{length-sort}
 use Rattle.definitions.proofs.Refusals.{Valid, accepted, rings-kept, rings-free, rings-accepted}
 use Rattle.definitions.proofs.Rings.{all-rings-are}
-use Rattle.definitions.proofs.Linking.{length-rings-in}
 use Rattle.table.specs.Row.{none}
-use Rattle.basis.specs.Held.{ringsOf, Counted, BasisOf, membersOf, AssembliesOf}
+use Rattle.basis.specs.Held.{ringsOf, Counted, BasisOf, noRings, membersOf, AssembliesOf}
 use Rattle.basis.specs.declared.basis.Basis.{Basis}
 use Rattle.basis.specs.declared.assembly.Assemblies.{Assemblies}
-use Rattle.basis.proofs.Holding.{ring-at}
+use Rattle.basis.proofs.Collecting.{listed-gap}
+use Rattle.basis.proofs.Replacing.{getD-same}
+use Rattle.basis.proofs.Holding.{ring-at, members-size}
 use Rattle.cycles.proofs.BasisList.{even-sums}
 use Rattle.cycles.proofs.Bound.{all-rings-few}
 use Rattle.rings.specs.Found.{most, Open, Gathered}
 use Rattle.rings.specs.Gibbs.{combined, allCombined, chosenOf}
 use Rattle.rings.specs.Elimination.{Choosable, Selected}
-use Rattle.rings.specs.Perceiving.{tangledOf, Combinable, Refused, Accepted, Perceives}
+use Rattle.rings.specs.Perceiving.{tangledOf, Combinable, Blank, Refused, Accepted, Perceives}
 use Rattle.rings.specs.declared.perception.Perceived.{Perceived}
 use Rattle.rings.proofs.Gathering.{gathered-none, gathered-more, gathered-open}
-use Rattle.rings.proofs.Turns.{listed-gap}
 use Rattle.rings.proofs.Exactly.{all-combined, all-combined-few}
 
 -- ---- the basis rings of an assembly
 
--- as many as its set has members
-members-size : {rs : List ℕ} {s : Assemblies} → AssembliesOf rs s → (a : ℕ) → a < s .count → size (membersOf s a) ≡ length (ringsIn rs a)
-members-size {rs} h a l = ap size (h .members a l) ∙ size-setOf (length rs) (λ i. eqb (getD (assembliesOf rs) i 0) a) ∙ sym (length-rings-in rs a)
-
--- at the places that its set names
+-- they stand at the places that its set names
 members-rings : {s : Assemblies} (b : Basis) → Counted b → length (ringsOf b) ≡ b .count → AssembliesOf (ringsOf b) s → (a : ℕ) → a < s .count
     → chosenOf (b .rings) (membersOf s a) ≡ ringsIn (ringsOf b) a
 unfolding ringsIn
@@ -74,6 +71,7 @@ pub record Untangled (s : Assemblies) (a : ℕ) : Type 0 where
   pub within : a ≤ s .count
   pub none : some? a (λ k. ltb maxAssembly (size (membersOf s k))) ≡ false
 
+-- before the first
 pub untangled-none : (s : Assemblies) → Untangled s 0
 untangled-none s = record { within = omega arith; none = some-none (λ k. ltb maxAssembly (size (membersOf s k))) }
 
@@ -158,6 +156,10 @@ module _ {b : Basis} {s : Assemblies} {start : List ℕ} (c : Combinable b s sta
 
 -- ---- the answers
 
+-- arrays of empty sets are blank
+pub all-blank : (m n : ℕ) → Blank (record { rings = replicate m none; count = 0 }) (record { members = replicate n noRings; count = 0 })
+all-blank m n = record { rings = refl; sets = λ i. ap bits (getD-same m i none); assemblies = refl; members = λ a. ap ringBits (getD-same n a noRings) }
+
 -- the table is refused
 pub perceives-refused : {M : Table} {start : List ℕ} {p : Perceived} {number : ℕ} → number ≡ refusal M → 0 < number
     → Refused number p → Perceives M start start p
@@ -167,6 +169,7 @@ perceives-refused {M} {p = p} {number} given h r =
 
 module _ {M : Table} {b : Basis} {s : Assemblies} {number : ℕ} (given : number ≡ refusal M) (zero : number ≤ 0) (held : BasisOf M b) (h : AssembliesOf (ringsOf b) s)
     {t : Bool} (test : t ≡ tangledOf s) where
+  -- the table is not refused
   free : refusal M ≡ 0
   free = omega arith
 
@@ -216,6 +219,7 @@ module _ {M : Table} {b : Basis} {s : Assemblies} {number : ℕ} (given : number
 -- ---- what an accepted table's rings give
 
 module _ {M : Table} {start end : List ℕ} {p : Perceived} (seen : Perceives M start end p) (zero : p .number ≤ 0) where
+  -- nothing is refused
   unrefused : refusalOfRings M ≡ 0
   unrefused = omega (arith, seen .number)
 
@@ -223,7 +227,7 @@ module _ {M : Table} {start end : List ℕ} {p : Perceived} (seen : Perceives M 
   pub perceived : Accepted M start end p
   perceived = seen .accepted unrefused
 
-  -- the table is accepted, and no assembly is tangled
+  -- the table is valid
   pub perceived-valid : Valid M
   perceived-valid = accepted M .0 (rings-accepted M .0 unrefused .0)
 
@@ -255,5 +259,6 @@ module _ {M : Table} {start end : List ℕ} {p : Perceived} (seen : Perceives M 
   unfolding smallestBasis
   perceived-smallest s = s .list ∙ ap (taking []) perceived-found
 
+  -- and so many are selected
   pub perceived-selected : {lent taken : List ℕ} {r : ℕ} → Selected (take (p .count) end) lent taken r → r ≡ length (smallestBasis M)
   perceived-selected {taken = taken} {r} s = sym (length-take-le r taken (omega (arith, s .few, s .long))) ∙ ap length (perceived-smallest s)

@@ -2,22 +2,24 @@
 use mathlib.Core.Path.{_≡_, refl, sym, ap, ap₂, subst, subst⁻¹, _∙_}
 use mathlib.Core.Bool.{Bool, true, false}
 use mathlib.Core.List.{List, [], _∷_, _++_, append-assoc, append-nil}
-use Prim.Native.Nat.{ℕ, suc, _+_, _*_, _^_, _<_, _≤_}
+use Prim.Native.Nat.{ℕ, suc, _+_, _^_, _<_, _≤_}
 use native.Mathlib.Numerals.{add-one}
-use native.Mathlib.Nat.{le-antisymm, le-refl, pow-suc, two-pow-succ}
-use native.Mathlib.Decide.{le-ind}
+use native.Mathlib.Nat.{le-antisymm, two-pow-succ}
 use native.Mathlib.Omega.{arith}
-use lib.ListN.{length, take, drop, getD, take-append-drop, replicate, length-replicate, length-append, length-map}
-use lib.Seq.{getD-take, take-all, take-take, take-at, length-take-le}
+use lib.ListN.{length, take, drop, getD, take-append-drop, replicate, length-replicate, length-append}
+use lib.Seq.{getD-take, take-take, take-at, length-take-le}
 use lib.Pow.{pow-mono, pow-pos}
 use Rattle.sets.specs.Bits.{has, size, IsNext}
 use Rattle.sets.specs.Bond.{bits}
+use Rattle.sets.specs.Ring.{room}
 use Rattle.sets.specs.declared.bond.BondSet.{BondSet}
 use Rattle.sets.proofs.Upto.{next-rises}
 use Rattle.table.specs.Row.{none as noBonds}
 use Rattle.definitions.specs.Search.{count, listed}
-use Rattle.definitions.proofs.Lists.{count-skip, count-take, count-mono, count-zero, listed-take, listed-zero, length-listed, setOf-is, size-setOf}
+use Rattle.definitions.specs.Assembly.{maxAssembly}
+use Rattle.definitions.proofs.Lists.{count-take, count-mono, count-zero, listed-take, listed-zero, length-listed, setOf-is, size-setOf}
 use Rattle.cycles.proofs.Sums.{take-listed}
+use Rattle.basis.proofs.Collecting.{listed-gap}
 use Rattle.rings.specs.Found.{Open, Gathered}
 use Rattle.rings.specs.Gibbs.{group, leastOf, sumsFrom, leastFrom, sumsOf, combined, sumsHeld, Doubled, Grouped, chosenOf}
 use Rattle.rings.proofs.Gathering.{gathered-none, gathered-more, gathered-open}
@@ -46,15 +48,6 @@ least-snoc olds l r =
     least-append olds l (r ∷ [])
     ∙ ap (λ m. leastFrom olds l ++ m) (append-nil (leastOf (group r (sumsFrom olds l)) (group r (sumsFrom olds l))))
 
--- each basis ring doubles the number of the sums
-pub sums-length : (olds l : List ℕ) → length (sumsFrom olds l) ≡ length olds * 2 ^ length l
-unfolding sumsFrom
-sums-length olds [] = omega arith
-sums-length olds (x ∷ l) = sums-length (olds ++ group x olds) l ∙ doubled
-  where
-    doubled : length (olds ++ group x olds) * 2 ^ length l ≡ length olds * 2 ^ length (x ∷ l)
-    doubled = rw (length-append, length-map, pow-suc) (omega arith)
-
 -- the first sum is that of no basis ring
 pub sums-first : (x : ℕ) (olds l : List ℕ) → getD (sumsFrom (x ∷ olds) l) 0 0 ≡ x
 unfolding sumsFrom
@@ -63,17 +56,9 @@ sums-first x olds (r ∷ l) = sums-first x (olds ++ group r (x ∷ olds)) l
 
 -- ---- no member is passed over
 
-module _ (p : ℕ → Bool) where
-  -- where none passes from i up to j, as many pass below both
-  count-gap : (i j : ℕ) → i ≤ j → ((k : ℕ) → i ≤ k → k < j → p k ≡ false) → count j p ≡ count i p
-  count-gap i j h none =
-      le-ind (λ m. m ≤ j → count m p ≡ count i p) (λ l. refl)
-      (λ m (l : i ≤ m) ih b. ap (λ n. count n p) (sym (add-one m)) ∙ count-skip p m refl (none m l (omega arith)) ∙ ih (omega arith)) j h (le-refl j)
-
-  -- and the same are listed
-  pub listed-gap : {A : Type 0} (f : ℕ → A) (i j : ℕ) → i ≤ j → ((k : ℕ) → i ≤ k → k < j → p k ≡ false) → listed j p f ≡ listed i p f
-  listed-gap f i j h none =
-      sym (take-all (count i p) (listed j p f) (omega (arith, length-listed j p f, count-gap i j h none))) ∙ take-listed i j p f h
+-- where none passes from i up to j, as many pass below both
+count-gap : (p : ℕ → Bool) (i j : ℕ) → i ≤ j → ((k : ℕ) → i ≤ k → k < j → p k ≡ false) → count j p ≡ count i p
+count-gap p i j h none = sym (length-listed j p (λ k. k)) ∙ ap length (listed-gap p (λ k. k) i j h none) ∙ length-listed i p (λ k. k)
 
 -- ---- the loop: the basis rings below place i are combined
 
@@ -81,20 +66,21 @@ module _ (p : ℕ → Bool) where
 abbrev ringAt : List BondSet → ℕ → ℕ
 ringAt rings k = bits (getD rings k noBonds)
 
+-- their sums are the first half sets of an array, and what is found of them is among the first r of a list
 pub record Turned (rings : List BondSet) (s : ℕ) (start : List ℕ) (n : ℕ) (sums : List ℕ) (half : ℕ) (found : List ℕ) (r i : ℕ) : Type 0 where
-  pub bound : s < 2 ^ 64
-  pub small : size s ≤ 10
+  pub bound : s < 2 ^ room
+  pub small : size s ≤ maxAssembly
   pub lent : Open (combined (chosenOf rings s)) start n
-  pub within : i ≤ 64
-  pub member : i < 64 → has s i ≡ true
+  pub within : i ≤ room
+  pub member : i < room → has s i ≡ true
   pub long : length sums ≡ sumsHeld
   pub power : half ≡ 2 ^ count i (has s)
   pub list : take half sums ≡ sumsOf (listed i (has s) (ringAt rings))
   pub gathered : Gathered (combined (listed i (has s) (ringAt rings))) start n found r
 
 -- before the first basis ring the empty set is the only sum
-pub turned-none : {s : ℕ} {start : List ℕ} {n i : ℕ} (rings : List BondSet) → s < 2 ^ 64 → size s ≤ 10 → Open (combined (chosenOf rings s)) start n
-    → IsNext 64 s 0 i → Turned rings s start n (replicate sumsHeld 0) 1 start n i
+pub turned-none : {s : ℕ} {start : List ℕ} {n i : ℕ} (rings : List BondSet) → s < 2 ^ room → size s ≤ maxAssembly → Open (combined (chosenOf rings s)) start n
+    → IsNext room s 0 i → Turned rings s start n (replicate sumsHeld 0) 1 start n i
 unfolding sumsFrom leastFrom
 turned-none {s} {start} {n} {i} rings b m o next =
     record {
@@ -122,10 +108,11 @@ module _ {rings : List BondSet} {s : ℕ} {start : List ℕ} {n : ℕ} {sums : L
   before = listed i (has s) (ringAt rings)
 
   -- as many as there are members
-  all-count : count 64 (has s) ≡ size s
-  all-count = sym (size-setOf 64 (has s)) ∙ ap size (sym (setOf-is 64 (has s) s (t .bound) (λ k l. refl)))
+  all-count : count room (has s) ≡ size s
+  all-count = sym (size-setOf room (has s)) ∙ ap size (sym (setOf-is room (has s) s (t .bound) (λ k l. refl)))
 
-  module _ (h : i < 64) where
+  module _ (h : i < room) where
+    -- with the basis ring at i there is one more
     more : count (i + 1) (has s) ≡ count i (has s) + 1
     more = count-take (has s) i (sym (t .member h)) refl
 
@@ -136,8 +123,8 @@ module _ {rings : List BondSet} {s : ℕ} {start : List ℕ} {n : ℕ} {sums : L
           arith,
           t .power,
           two-pow-succ (count i (has s)),
-          pow-mono {i = suc (count i (has s))} {j = 10}
-              (omega (arith, more, all-count, t .small, count-mono (has s) (i + 1) 64 (omega arith))),
+          pow-mono {i = suc (count i (has s))} {j = maxAssembly}
+              (omega (arith, more, all-count, t .small, count-mono (has s) (i + 1) room (omega arith))),
         )
 
     module _ {sums′ : List ℕ} {ring : BondSet} (is : ring ≡ getD rings i noBonds) (made : Doubled sums half (bits ring) sums′) where
@@ -148,6 +135,7 @@ module _ {rings : List BondSet} {s : ℕ} {start : List ℕ} {n : ℕ} {sums : L
           ∙ ap (take half) (made .list)
           ∙ take-at (take half sums) (group (bits ring) (take half sums)) half (length-take-le half sums (omega (arith, turned-few, t .long)))
 
+      -- there are old sets
       some : 0 < half
       some = omega (arith, t .power, pow-pos (count i (has s)))
 
@@ -165,6 +153,7 @@ module _ {rings : List BondSet} {s : ℕ} {start : List ℕ} {n : ℕ} {sums : L
       with-ring : listed (i + 1) (has s) (ringAt rings) ≡ before ++ bits ring ∷ []
       with-ring = listed-take (has s) (ringAt rings) i (sym (t .member h)) refl ∙ ap (λ x. before ++ bits x ∷ []) (sym is)
 
+      -- what is found with it
       found-with : combined before ++ leastOf (group (bits ring) (take half sums′)) (group (bits ring) (take half sums′)) ≡ combined (listed (i + 1) (has s) (ringAt rings))
       found-with =
           ap (λ l. combined before ++ leastOf (group (bits ring) l) (group (bits ring) l)) (olds ∙ t .list)
@@ -174,7 +163,7 @@ module _ {rings : List BondSet} {s : ℕ} {start : List ℕ} {n : ℕ} {sums : L
       -- the basis rings after it
       others : listed (i + 1) (has s) (ringAt rings) ++ drop (count (i + 1) (has s)) (chosenOf rings s) ≡ chosenOf rings s
       others =
-          ap (λ l. l ++ drop (count (i + 1) (has s)) (chosenOf rings s)) (sym (take-listed (i + 1) 64 (has s) (ringAt rings) (omega arith)))
+          ap (λ l. l ++ drop (count (i + 1) (has s)) (chosenOf rings s)) (sym (take-listed (i + 1) room (has s) (ringAt rings) (omega arith)))
           ∙ take-append-drop (count (i + 1) (has s)) (chosenOf rings s)
 
       -- there is room for what is found in it
@@ -192,7 +181,7 @@ module _ {rings : List BondSet} {s : ℕ} {start : List ℕ} {n : ℕ} {sums : L
 
       -- the next basis ring
       pub turned-more : {end : List ℕ} {r′ q : ℕ} → Gathered (leastOf (group (bits ring) (take half sums′)) (group (bits ring) (take half sums′))) found r end r′
-          → IsNext 64 s (i + 1) q → Turned rings s start n sums′ (half + half) end r′ q
+          → IsNext room s (i + 1) q → Turned rings s start n sums′ (half + half) end r′ q
       turned-more {end} {r′} {q} g next =
           record {
             bound = t .bound;
@@ -211,11 +200,11 @@ module _ {rings : List BondSet} {s : ℕ} {start : List ℕ} {n : ℕ} {sums : L
           }
         where
           rises : i + 1 ≤ q
-          rises = omega (arith, next-rises 64 s i q h next)
+          rises = omega (arith, next-rises room s i q h next)
 
           passed : listed q (has s) (ringAt rings) ≡ listed (i + 1) (has s) (ringAt rings)
           passed = listed-gap (has s) (ringAt rings) (i + 1) q rises (next .none)
 
   -- after the last all are combined
-  pub turned-all : 64 ≤ i → Gathered (combined (chosenOf rings s)) start n found r
+  pub turned-all : room ≤ i → Gathered (combined (chosenOf rings s)) start n found r
   turned-all h = subst (λ k. Gathered (combined (listed k (has s) (ringAt rings))) start n found r) (le-antisymm (t .within) h) (t .gathered)

@@ -1,5 +1,5 @@
--- Gibbs' combination of a list of basis rings (000), as far as sets of numbers: each basis ring in turn is summed with the sums of those
--- before it, the old sets, and the sums that are rings are kept.
+-- Gibbs' combination of a list of basis rings (000): each basis ring in turn is summed with the sums of those before it, the old sets, and
+-- of these sums, its group, those are kept that no other of the group lies inside.
 -- Assumes nothing.
 use mathlib.Core.Path.{_≡_}
 use mathlib.Core.Bool.{Bool, _&&_, not}
@@ -9,11 +9,12 @@ use lib.ListN.{length, getD, take}
 use lib.Bits.{bitXor}
 use lib.Dec.{eqb}
 use Rattle.sets.specs.Bits.{has, sub}
-use Rattle.sets.specs.Bond.{bits, room}
+use Rattle.sets.specs.Bond.{bits}
+use Rattle.sets.specs.Ring.{room}
 use Rattle.sets.specs.declared.bond.BondSet.{BondSet}
 use Rattle.definitions.specs.Search.{every, listed, gather, keep}
-use Rattle.table.specs.Row.{none}
 use Rattle.definitions.specs.Assembly.{assemblyCount, ringsIn, maxAssembly}
+use Rattle.table.specs.Row.{none}
 
 -- the group of a basis ring: its sums with the old sets
 abbrev pub group : ℕ → List ℕ → List ℕ
@@ -74,6 +75,6 @@ pub record Grouped (sums : List ℕ) (half ring : ℕ) : Type 0 where
   pub none : getD sums 0 0 ≡ 0
   pub list : take (half + half) sums ≡ take half sums ++ groupAt sums half ring
 
--- the sets of an array at the places of a set of places
+-- the sets of an array at the places that a set of places has
 abbrev pub chosenOf : List BondSet → ℕ → List ℕ
 chosenOf rings places = listed room (has places) (λ i. bits (getD rings i none))

@@ -6,14 +6,16 @@ use mathlib.Core.Bool.{Bool}
 use mathlib.Core.List.{List}
 use Prim.Native.Nat.{ℕ, _≤_, _<_}
 use lib.Dec.{ltb}
-use lib.ListN.{length}
+use lib.ListN.{length, getD}
 use Rattle.sets.specs.Bits.{size}
+use Rattle.sets.specs.Bond.{bits}
 use Rattle.definitions.specs.Search.{some?}
 use Rattle.definitions.specs.Table.{Table}
 use Rattle.definitions.specs.Basis.{basisRings}
 use Rattle.definitions.specs.Assembly.{maxAssembly}
 use Rattle.definitions.specs.AllRings.{allRings}
 use Rattle.definitions.specs.Answer.{over, refusalOfRings}
+use Rattle.table.specs.Row.{none}
 use Rattle.basis.specs.Held.{ringsOf, Counted, BasisOf, membersOf, AssembliesOf}
 use Rattle.basis.specs.declared.basis.Basis.{Basis}
 use Rattle.basis.specs.declared.assembly.Assemblies.{Assemblies}
@@ -33,12 +35,18 @@ pub record Combinable (b : Basis) (s : Assemblies) (found : List ℕ) : Type 0 w
   pub small : (a : ℕ) → a < s .count → size (membersOf s a) ≤ maxAssembly
   pub lent : Open (allCombined (ringsOf b)) found 0
 
+-- no basis rings and no assemblies: empty sets
+pub record Blank (b : Basis) (s : Assemblies) : Type 0 where
+  pub rings : b .count ≡ 0
+  pub sets : (i : ℕ) → bits (getD (b .rings) i none) ≡ 0
+  pub assemblies : s .count ≡ 0
+  pub members : (a : ℕ) → membersOf s a ≡ 0
+
 -- of a refused table: the number of the refusal, and nothing else
 pub record Refused (c : ℕ) (p : Perceived) : Type 0 where
   pub number : p .number ≡ c
   pub count : p .count ≡ 0
-  pub basis : p .basis .count ≡ 0
-  pub assemblies : p .assemblies .count ≡ 0
+  pub blank : Blank (p .basis) (p .assemblies)
 
 -- of an accepted table: how many rings there are, the rings over the start of a list, the basis rings and the assemblies
 pub record Accepted (M : Table) (start end : List ℕ) (p : Perceived) : Type 0 where

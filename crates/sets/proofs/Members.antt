@@ -11,7 +11,7 @@ use lib.Arith.{lt-of-le-ne}
 use lib.Dec.{eqb}
 use lib.Pow.{pow-lt}
 use Rattle.sets.specs.Bits.{has, Sub, sub, size, with, without, meet, IsNext}
-use Rattle.sets.proofs.Laws.{ext, below, lowest, highest, has-and, has-xor, has-above, has-with, has-without}
+use Rattle.sets.proofs.Laws.{ext, below, lowest, highest, has-zero, has-and, has-xor, has-above, has-with, has-without}
 use Rattle.sets.proofs.Size.{size-none, size-zero, size-without, sub-test, test-sub, and-sub, xor-zero}
 
 -- ---- common members
@@ -31,6 +31,17 @@ common s t e = go (eq-zero-or-pos (bitAnd s t))
 
 pub apart : (s t : ℕ) → meet s t ≡ false → bitAnd s t ≡ 0
 apart s t e = eqb-true (bitAnd s t) 0 (not-false _ e)
+
+-- two sets with a common member meet
+pub meet-of : (s t k : ℕ) → has s k ≡ true → has t k ≡ true → meet s t ≡ true
+meet-of s t k p q = go (meet s t) refl
+  where
+    clash : meet s t ≡ false → ⊥
+    clash e = true≢false (sym (and-eq-true-iff (has s k) (has t k) .1 (p, q)) ∙ sym (has-and s t k) ∙ ap (λ (x : ℕ). has x k) (apart s t e) ∙ has-zero k)
+
+    go : (b : Bool) → meet s t ≡ b → meet s t ≡ true
+    go true e = e
+    go false e = absurd (clash e)
 
 -- ---- parts
 

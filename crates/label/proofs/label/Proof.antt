@@ -16,7 +16,7 @@ use Rattle.label.proofs.label.Tie as tie
 -- what is worked out of an accepted table
 worked : (e : tie.Else1)
     → Accepted (table (e .before .before .before .before .before .before .args .atoms) (e .before .before .before .before .before .before .args .bonds .now)) (replicate most 0) (e .before .before .perceive .last .1 .1 .0) (e .before .before .perceive .result)
-worked e = perceived (e .before .before .perceive .ensures) (e .if1 .left)
+worked e = perceived (e .before .before .perceive .ensures) (omega arith)
 
 -- there are no more assemblies than bonds
 few : (e : tie.Else1) → e .before .before .perceive .result .assemblies .count ≤ maxBonds
@@ -26,10 +26,10 @@ perceive-requires : tie.Need-perceive-requires
 perceive-requires c κs = search needs
 
 returns : tie.Need-returns
-returns c = label-refused _ (c .before .before .perceive .ensures) _ (c .if1 .taken)
+returns c = label-refused _ (c .before .before .perceive .ensures) _ (omega arith)
 
 smallest-of-requires : tie.Need-smallest-of-requires
-smallest-of-requires c κs = let e = c .before .before .before in perceived-choosable (e .before .before .perceive .ensures) (e .if1 .left) refl refl
+smallest-of-requires c κs = let e = c .before .before .before in perceived-choosable (e .before .before .perceive .ensures) (omega arith) refl refl
 
 slice-aggregate-write-pairs : tie.Need-slice-aggregate-write-pairs
 slice-aggregate-write-pairs c = search needs
@@ -41,7 +41,7 @@ slice-aggregate-counts-of : tie.Need-slice-aggregate-counts-of
 slice-aggregate-counts-of c = let e = c .before .before .before .before .before .before .before .before .before in sym (e .before .before .perceive .ensures .long)
 
 counts-of-requires : tie.Need-counts-of-requires
-counts-of-requires c κs = let e = c .before .before .before .before .before .before .before .before .before in found-within _ (e .before .before .perceive .ensures) (e .if1 .left) refl
+counts-of-requires c κs = let e = c .before .before .before .before .before .before .before .before .before in found-within _ (e .before .before .perceive .ensures) (omega (arith, e .if1)) refl
 
 slice-aggregate-counts-of-2 : tie.Need-slice-aggregate-counts-of-2
 slice-aggregate-counts-of-2 c = search needs
@@ -67,7 +67,7 @@ returns-2 c =
     let w = f .before .before .before .before .before .before in
     let t = w .before .before .before in
     let e = t .before .before .before .before in
-    label-written _ (e .before .before .perceive .ensures) (e .if1 .left) (f .before .before .before .counts-of .result) (f .before .counts-of2 .result) (w .write-pairs .last .1 .1 .0) _
+    label-written _ (e .before .before .perceive .ensures) (omega (arith, e .if1)) (f .before .before .before .counts-of .result) (f .before .counts-of2 .result) (w .write-pairs .last .1 .1 .0) _
     (f .frerejacque .ensures) (f .before .before .before .counts-of .ensures) (t .smallest-of .ensures) (f .before .counts-of2 .ensures) (w .write-pairs .ensures) (c .before .before .write-label .ensures)
 
 pub label-spec : {M : Type 1} → statement M

@@ -15,7 +15,7 @@ reduced-basis-requires : tie.Need-reduced-basis-requires
 reduced-basis-requires c κs = search needs
 
 returns : tie.Need-returns
-returns c = sidecar-refused _ _ refl (c .before .before .before .reduced-basis .ensures) _ (c .if1 .taken)
+returns c = sidecar-refused _ _ refl (c .before .before .before .reduced-basis .ensures) _ (omega arith)
 
 slice-aggregate-write-sidecar : tie.Need-slice-aggregate-write-sidecar
 slice-aggregate-write-sidecar c = search needs

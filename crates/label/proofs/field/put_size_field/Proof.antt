@@ -22,8 +22,12 @@ put-histogram-requires c κs =
     let a = s .args in
     let put = c .before .before .before .put-tagged in (
       s .pre .0,
-      content-fits (a .out .now) (a .at) (a .tag) (lines (a .width) (a .counts .now)) (s .pre .1)
-          (c .before .before .before .before .before .histogram-bytes .ensures .0) (put .ensures) (put .kept .1 .1 .1 .0),
+      omega (
+        arith,
+        put .ensures .end,
+        content-fits (a .out .now) (a .at) (a .tag) (lines (a .width) (a .counts .now)) (s .pre .1)
+            (c .before .before .before .before .before .histogram-bytes .ensures .0) (put .ensures) (put .kept .1 .1 .1 .0),
+      ),
     )
 
 same-length : tie.Need-same-length

@@ -49,16 +49,18 @@ add-count-3 : tie.Need-add-count-3
 add-count-3 c = search needs
 
 returns : tie.Need-returns
-returns c = is-short (text (start (c .before))) _ {c = 0} refl (omega arith) (counted (c .before)) (c .if1 .taken)
+returns c = let p = c .before in is-short (text (start p)) (start p .args .out .now) {c = 0} refl (omega arith) (counted p) (omega arith)
 
 put-label-requires : tie.Need-put-label-requires
-put-label-requires c κs = let p = c .before .before in (start p .pre, omega (arith, counted p, c .before .if1 .left))
+put-label-requires c κs = let p = c .before .before in (start p .pre, omega (arith, counted p))
 
 same-length : tie.Need-same-length
 same-length c = search needs
 
 returns-2 : tie.Need-returns-2
-returns-2 c = let p = c .before .before .before .before .before in is-full (text (start p)) _ {c = 0} refl (omega arith) (counted p) (c .before .before .before .before .if1 .left) (c .before .before .put-label .ensures)
+returns-2 c =
+    let p = c .before .before .before .before .before in
+    is-full (text (start p)) (start p .args .out .now) {c = 0} refl (omega arith) (counted p) (omega arith) (c .before .before .put-label .ensures)
 
 pub write-label-spec : {M : Type 1} → statement M
 write-label-spec =

@@ -28,16 +28,16 @@ add-count : tie.Need-add-count
 add-count c = search needs
 
 returns : tie.Need-returns
-returns c = is-short (text (c .before .before .before)) _ {c = 0} refl (omega arith) (counted (c .before .before .before)) (c .if1 .taken)
+returns c = let s = c .before .before .before in is-short (text s) (s .args .out .now) {c = 0} refl (omega arith) (counted s) (omega arith)
 
 put-number-field-requires : tie.Need-put-number-field-requires
-put-number-field-requires c κs = let s = c .before .before .before .before in (omega arith, s .pre, omega (arith, counted s, c .before .if1 .left))
+put-number-field-requires c κs = let s = c .before .before .before .before in (omega arith, s .pre, omega (arith, counted s))
 
 same-length : tie.Need-same-length
 same-length c = search needs
 
 returns-2 : tie.Need-returns-2
-returns-2 c = let s = c .before .before .before .before .before .before .before in is-full (text s) _ {c = 0} refl (omega arith) (counted s) (c .before .before .before .before .if1 .left) (appended-over (c .before .before .put-number-field .ensures))
+returns-2 c = let s = c .before .before .before .before .before .before .before in is-full (text s) (s .args .out .now) {c = 0} refl (omega arith) (counted s) (omega arith) (appended-over (c .before .before .put-number-field .ensures))
 
 pub write-sidecar-spec : {M : Type 1} → statement M
 write-sidecar-spec =
