@@ -1,5 +1,9 @@
--- Text that grows in a lent list: nothing, one byte, one text after another, a text byte by byte; and what was appended from the start
--- stands over the list.
+-- Text that grows in a lent list: what is appended, and the invariants of those who append.
+--     Appended                          nothing, a byte, one text after another; what is appended from the start stands over the list
+--     Spelt text lent out at i          a loop that stores a text byte by byte: i bytes are stored
+--     Strung f N lent out at next k     a loop that appends N texts f 0, f 1, ..: k are appended
+--     Begun text lent rest out at       calls that append one part after another over the start of a list: `rest` is left
+-- Each has laws `-none` at the start, `-more` for one turn, `-room` and `-length` at any, `-all` at the end.
 -- Assumes nothing.
 use mathlib.Core.Path.{_≡_, refl, sym, ap, _∙_}
 use mathlib.Core.List.{List, [], _∷_, _++_, append-assoc}
@@ -28,9 +32,11 @@ module _ {l m : List ℕ} {i j : ℕ} {s : List ℕ} where
   appended-as e a = rw (← e) a
 
   module _ (within : i ≤ length l) (a : Appended l i s m j) where
+    -- the text ends where the next begins
     start : length (take i l ++ s) ≡ j
     start = length-append (take i l) s ∙ ap (λ (n : ℕ). n + length s) (length-take-le i l within) ∙ sym (a .end)
 
+    -- before it stands the text, after it the list as it was
     parted : m ≡ (take i l ++ s) ++ drop j l
     parted = a .list ∙ sym (append-assoc (take i l) s (drop j l))
 
@@ -61,17 +67,19 @@ pub appended-over : {l m s : List ℕ} {n : ℕ} → Appended l 0 s m n → m �
 unfolding over
 appended-over {l} {m} {s} {n} a = let e : n ≡ length s = omega (arith, a .end) in a .list ∙ ap (λ (k : ℕ). s ++ drop k l) e
 
--- ---- a loop that appends a text byte by byte: of the text, i bytes are stored
+-- ---- a text byte by byte
 
 pub record Spelt (text lent out : List ℕ) (at i : ℕ) : Type 0 where
   pub within : i ≤ length text
   pub room : at + length text ≤ length lent
   pub list : out ≡ paste lent at text i
 
+-- before the first byte the list is as lent
 pub spelt-none : (text lent : List ℕ) (at : ℕ) → at + length text ≤ length lent → Spelt text lent lent at 0
 spelt-none text lent at h = record { within = omega arith; room = h; list = paste-zero lent at text }
 
 module _ {text lent out : List ℕ} {at i : ℕ} (s : Spelt text lent out at i) where
+  -- the list keeps its length
   pub spelt-length : length out ≡ length lent
   spelt-length = ap length (s .list) ∙ length-paste lent at text i (omega (arith, s .within, s .room)) (s .within)
 
@@ -83,6 +91,7 @@ module _ {text lent out : List ℕ} {at i : ℕ} (s : Spelt text lent out at i) 
     list = rw (s .list, e, add-one) (paste-suc lent at text i 0 (omega (arith, s .room)) h);
   }
 
+  -- after the last byte the text is appended
   pub spelt-all : {n : ℕ} → n ≡ length text → n ≤ i → Appended lent at text out (at + n)
   spelt-all {n} e h =
       let q : i ≡ n = omega (arith, s .within) in
@@ -91,17 +100,19 @@ module _ {text lent out : List ℕ} {at i : ℕ} (s : Spelt text lent out at i) 
         list = s .list ∙ append-assoc (take at lent) (take i text) (drop (at + i) lent) ∙ rw (take-all i text (omega arith), q);
       }
 
--- ---- a loop that appends texts one after another: of N texts f k, k are appended
+-- ---- texts one after another
 
 pub record Strung (f : ℕ → List ℕ) (N : ℕ) (lent out : List ℕ) (at next k : ℕ) : Type 0 where
   pub within : k ≤ N
   pub room : at + length (gather N f) ≤ length lent
   pub text : Appended lent at (gather k f) out next
 
+-- before the first text the list is as lent
 pub strung-none : (f : ℕ → List ℕ) (N : ℕ) (lent : List ℕ) (at : ℕ) → at + length (gather N f) ≤ length lent → Strung f N lent lent at at 0
 strung-none f N lent at h = record { within = omega arith; room = h; text = appended-as (sym (gather-zero f)) (appended-none lent at) }
 
 module _ {f : ℕ → List ℕ} {N : ℕ} {lent out : List ℕ} {at next k : ℕ} (s : Strung f N lent out at next k) where
+  -- the list keeps its length
   pub strung-length : length out ≡ length lent
   strung-length = appended-length (omega (arith, s .room)) (s .text) (omega (arith, s .room, s .text .end, gather-mono f k N (s .within)))
 
@@ -118,16 +129,18 @@ module _ {f : ℕ → List ℕ} {N : ℕ} {lent out : List ℕ} {at next k : ℕ
     text = appended-as (sym (gather-step k f)) (appended-more (omega (arith, s .room)) (s .text) a);
   }
 
+  -- after the last text all are appended
   pub strung-all : N ≤ k → Appended lent at (gather N f) out next
   strung-all h = let e : k ≡ N = omega (arith, s .within) in rw (← e) (s .text)
 
--- ---- texts appended by one call after another: of a text over the start of a lent list, `rest` is still to be appended
+-- ---- parts of a text, call after call
 
 pub record Begun (text lent rest out : List ℕ) (at : ℕ) : Type 0 where
   pub long : length out ≡ length lent
   pub room : at + length rest ≤ length out
   pub ends : (out′ : List ℕ) (last : ℕ) → Appended out at rest out′ last → out′ ≡ over text lent
 
+-- before the first call all of the text is left
 pub begun-none : (text lent : List ℕ) → length text ≤ length lent → Begun text lent text lent 0
 begun-none text lent h = record { long = refl; room = omega arith; ends = λ out′ last a. appended-over a }
 

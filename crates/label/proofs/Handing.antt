@@ -24,6 +24,7 @@ module _ (wanted lent : List ℕ) where
   filled : length wanted ≤ length lent → outcome 0 wanted lent ≡ outcomeOf 0 (length wanted) (over wanted lent)
   filled h = sym (is-full wanted lent {r = 0} refl (omega arith) refl h refl)
 
+  -- the number of an outcome is the refusal
   numbered : (d : ℕ) → (d ≡ 0 → length wanted ≤ length lent) → outcome d wanted lent .number ≡ d
   numbered zero h = ap (λ (o : Outcome). o .number) (filled (h refl))
   numbered (suc d) h = ap (λ (o : Outcome). o .number) (sym (is-refused wanted lent {r = suc d} refl (omega arith)))
@@ -37,6 +38,7 @@ module _ (wanted lent : List ℕ) where
     pub given-refused : 0 < r → k ≡ 0
     given-refused h = ap (λ (o : Outcome). o .count) (given ∙ sym (is-refused wanted lent given-number h))
 
+    -- with no refusal all is told
     accepted-as : r ≤ 0 → outcomeOf r k left ≡ outcomeOf 0 (length wanted) (over wanted lent)
     accepted-as h = let none : c ≡ 0 = omega (arith, given-number) in given ∙ ap (λ (d : ℕ). outcome d wanted lent) none ∙ filled (room none)
 
@@ -57,12 +59,13 @@ few-basis-rings M e =
 
 -- ---- the sidecar
 
--- there is room for the reduced basis
+-- the reduced basis has no more sets than a word has bonds
 pub reduced-fits : (M : Table) (lent : List ℕ) → length lent ≡ maxBonds → refusal M ≡ 0 → length (reducedBasis M) ≤ length lent
 reduced-fits M lent l e = omega (arith, few-basis-rings M e, reducedBasis-counted M {n = length (basisRings M)} refl)
 
 module _ (M : Table) (lent : List ℕ) {number count : ℕ} {sets : List ℕ} (long : length lent ≡ maxBonds)
     (given : outcomeOf number count sets ≡ outcome (refusal M) (reducedBasis M) lent) (out : List ℕ) where
+  -- there is room for the reduced basis
   room : refusal M ≡ 0 → length (reducedBasis M) ≤ length lent
   room = reduced-fits M lent long
 

@@ -46,7 +46,8 @@ frerejacque-low : {M : Table} → Valid M → frerejacque M < 256
 unfolding frerejacque
 frerejacque-low v = omega (arith, v .some-atoms, v .few-bonds)
 
--- the pairs that are gathered are those of the table's assemblies
+-- ---- the pairs of the assemblies
+
 module _ (M : Table) {b : Basis} {s : Assemblies} (basis : BasisOf M b) (parts : AssembliesOf (basisRings M) s) where
   -- an assembly has as many rings as its set has members
   members-size : (a : ℕ) → a < s .count → size (membersOf s a) ≡ length (ringsIn (basisRings M) a)
@@ -64,6 +65,7 @@ module _ (M : Table) {b : Basis} {s : Assemblies} (basis : BasisOf M b) (parts :
       (λ k l. ap (λ (x : ℕ). has x k) (parts .members a h) ∙ has-setOf n own k ∙ ap (λ (t : Bool). t && own k) (lt-ltb k n l))
       (λ k l t. ring-at b k (omega (arith, basis .count)) ∙ ap (λ (l : List ℕ). getD l k 0) (basis .rings))
 
+  -- so the pairs are those of the table
   assembly-pairs : pairsNamed b s ≡ assemblyPairs M
   unfolding pairsNamed assemblyPairs pairOf
   assembly-pairs =
@@ -71,6 +73,8 @@ module _ (M : Table) {b : Basis} {s : Assemblies} (basis : BasisOf M b) (parts :
       (gather-ext (s .count) (λ a. pairNamed b (membersOf s a) ∷ []) (λ a. pairOf (ringsIn (basisRings M) a) ∷ [])
       (λ a h. ap₂ (λ (k : ℕ) (l : List ℕ). (k * 256 + size (unionOf l)) ∷ []) (members-size a h) (named-rings a h))
       ∙ ap (λ (n : ℕ). gather n (λ a. pairOf (ringsIn (basisRings M) a) ∷ [])) (parts .count))
+
+-- ---- the label
 
 module _ (M : Table) {start found : List ℕ} {p : Perceived} (seen : Perceives M start found p) where
   -- a refusal is handed on

@@ -6,6 +6,7 @@
 --     Pairing      the pairs of the assemblies, put in order
 --     Handing      the answers of the steps below, handed on
 --     Labelling    what is worked out of a table makes its label
+--     Fitting      no number is cut short by the bytes that it gets
 pub mod Appending
 pub mod Bytes
 pub mod Tagging
@@ -13,3 +14,4 @@ pub mod Counting
 pub mod Pairing
 pub mod Handing
 pub mod Labelling
+pub mod Fitting

@@ -5,7 +5,7 @@ use mathlib.Core.List.{List, [], _∷_, _++_}
 use Prim.Native.Nat.{ℕ, suc, _+_, _*_, _≤_}
 use native.Mathlib.Omega.{arith}
 use lib.ListN.{length, take, length-append}
-use Rattle.definitions.specs.Label.{bytesOf, bytesOfAll, field, sidecarTag, setBytes}
+use Rattle.definitions.specs.Label.{bytesOf, bytesOfAll, field, frerejacqueTag, ringsTag, smallestTag, assembliesTag, sidecarTag, setBytes}
 use Rattle.label.specs.Sizes.{lines}
 use Rattle.label.specs.Text.{Appended, labelText}
 use Rattle.label.proofs.Appending.{appended-more}
@@ -37,19 +37,19 @@ pub label-bytes : (number : ℕ) (rings smallest pairs : List ℕ) {n a b : ℕ}
     → 13 + (a + b) + 2 * n ≡ length (labelText number rings smallest (take n pairs))
 unfolding labelText
 label-bytes number rings smallest pairs {n} {a} {b} e f h =
-    let first : List ℕ = field 0x01 (bytesOfAll 1 (number ∷ [])) in
-    let second : List ℕ = field 0x02 (lines 2 rings) in
-    let third : List ℕ = field 0x03 (lines 1 smallest) in
-    let fourth : List ℕ = field 0x04 (bytesOfAll 2 (take n pairs)) in
+    let first : List ℕ = field frerejacqueTag (bytesOfAll 1 (number ∷ [])) in
+    let second : List ℕ = field ringsTag (lines 2 rings) in
+    let third : List ℕ = field smallestTag (lines 1 smallest) in
+    let fourth : List ℕ = field assembliesTag (bytesOfAll 2 (take n pairs)) in
     omega (
       arith,
       length-append first (second ++ (third ++ fourth)),
       length-append second (third ++ fourth),
       length-append third fourth,
-      length-field 0x01 (bytesOfAll 1 (number ∷ [])),
-      length-field 0x02 (lines 2 rings),
-      length-field 0x03 (lines 1 smallest),
-      length-field 0x04 (bytesOfAll 2 (take n pairs)),
+      length-field frerejacqueTag (bytesOfAll 1 (number ∷ [])),
+      length-field ringsTag (lines 2 rings),
+      length-field smallestTag (lines 1 smallest),
+      length-field assembliesTag (bytesOfAll 2 (take n pairs)),
       length-bytesOfAll 1 (number ∷ []),
       numbers-bytes 2 pairs n h,
     )

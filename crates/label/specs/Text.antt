@@ -2,9 +2,9 @@
 -- Assumes nothing.
 use mathlib.Core.Path.{_≡_}
 use mathlib.Core.List.{List, [], _∷_, _++_}
-use Prim.Native.Nat.{ℕ, _+_}
+use Prim.Native.Nat.{ℕ, _+_, _*_}
 use lib.ListN.{length, take, drop}
-use Rattle.definitions.specs.Label.{bytesOfAll, field}
+use Rattle.definitions.specs.Label.{bytesOfAll, field, frerejacqueTag, ringsTag, smallestTag, assembliesTag}
 use Rattle.label.specs.Sizes.{lines}
 
 -- the list `before` with the text over it from the place `at` on is the list `after`, and the text ends where `next` is
@@ -15,5 +15,14 @@ pub record Appended (before : List ℕ) (at : ℕ) (text after : List ℕ) (next
 -- the label's four fields, from the Frerejacque number, the counts of rings and of smallest rings by size, and the assemblies' pairs
 unfoldable pub labelText : ℕ → List ℕ → List ℕ → List ℕ → List ℕ
 labelText number rings smallest pairs =
-    field 0x01 (bytesOfAll 1 (number ∷ []))
-    ++ (field 0x02 (lines 2 rings) ++ (field 0x03 (lines 1 smallest) ++ field 0x04 (bytesOfAll 2 pairs)))
+    field frerejacqueTag (bytesOfAll 1 (number ∷ []))
+    ++ (field ringsTag (lines 2 rings) ++ (field smallestTag (lines 1 smallest) ++ field assembliesTag (bytesOfAll 2 pairs)))
+
+-- the number that bytes spell after a number, high byte first
+unfoldable pub valueFrom : ℕ → List ℕ → ℕ
+valueFrom x [] = x
+valueFrom x (b ∷ l) = valueFrom (x * 256 + b) l
+
+-- the number that bytes spell
+abbrev pub valueOf : List ℕ → ℕ
+valueOf l = valueFrom 0 l

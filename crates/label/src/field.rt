@@ -11,9 +11,10 @@ ghost use Rattle.definitions.specs.Label.{bytesOfAll, field};
 ghost use Rattle.label.specs.Text.{Appended};
 ghost use Rattle.label.specs.Sizes.{lines};
 
-// The bytes of a field's length, and those before its content.
+// The bytes of a field's length.
 const LENGTH: usize = 2;
 
+// The bytes of a field before its content.
 pub(crate) const HEAD: usize = 1 + LENGTH;
 
 // A field of the first n numbers of a list, each in so many bytes.

@@ -13,20 +13,25 @@ ghost use Rattle.definitions.specs.Label.{field, bytesOfAll, sidecarTag, setByt
 ghost use Rattle.definitions.specs.Answer.{outcomeOf, over, outcome};
 ghost use Rattle.label.specs.Text.{labelText};
 
-// The tags of the label's fields and of the sidecar's.
+// The tag of the label's field with the Frerejacque number.
 const FREREJACQUE: u8 = 0x01;
 
+// The tag of the field with the sizes of all rings.
 const RINGS: u8 = 0x02;
 
+// The tag of the field with the sizes of the smallest basis.
 const SMALLEST: u8 = 0x03;
 
+// The tag of the field with the assemblies' pairs.
 const ASSEMBLIES: u8 = 0x04;
 
+// The tag of the sidecar's field with the reduced basis.
 const REDUCED: u8 = 0x20;
 
-// The bytes of a count of rings and of a count of smallest rings.
+// The bytes of a count of rings.
 const COUNT: usize = 2;
 
+// The bytes of a count of smallest rings.
 const SMALL_COUNT: usize = 1;
 
 // The bytes of an assembly's pair.

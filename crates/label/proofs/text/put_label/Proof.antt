@@ -4,7 +4,7 @@ use mathlib.Core.List.{List, [], _∷_, _++_}
 use Prim.Native.Nat.{ℕ}
 use native.Mathlib.Omega.{arith}
 use lib.ListN.{take}
-use Rattle.definitions.specs.Label.{bytesOfAll, field}
+use Rattle.definitions.specs.Label.{bytesOfAll, field, frerejacqueTag, ringsTag, smallestTag, assembliesTag}
 use Rattle.label.specs.Sizes.{lines}
 use Rattle.label.specs.Text.{labelText}
 use Rattle.label.proofs.Appending.{Begun, begun-none, begun-room, begun-more}
@@ -14,16 +14,16 @@ use Rattle.label.proofs.text.put_label.Tie as tie
 
 -- the four fields
 abbrev first : tie.Start → List ℕ
-first s = field 0x01 (bytesOfAll 1 (s .args .number ∷ []))
+first s = field frerejacqueTag (bytesOfAll 1 (s .args .number ∷ []))
 
 abbrev rings : tie.Start → List ℕ
-rings s = field 0x02 (lines 2 (s .args .rings .now))
+rings s = field ringsTag (lines 2 (s .args .rings .now))
 
 abbrev smallest : tie.Start → List ℕ
-smallest s = field 0x03 (lines 1 (s .args .smallest .now))
+smallest s = field smallestTag (lines 1 (s .args .smallest .now))
 
 abbrev pairs : tie.Start → List ℕ
-pairs s = field 0x04 (bytesOfAll 2 (take (s .args .n) (s .args .pairs .now)))
+pairs s = field assembliesTag (bytesOfAll 2 (take (s .args .n) (s .args .pairs .now)))
 
 -- the text is written as far as the fields that are left
 abbrev Left : tie.Start → List ℕ → List ℕ → ℕ → Type 0
