@@ -160,7 +160,7 @@ module _ {rs : List ℕ} {g h : Group} {i : ℕ} (p : Passing rs g h i) (l : i <
       to e = eh ∙ rw (es, e)
 
 -- all rings left were looked at
-pub passing-all : {rs : List ℕ} {g h : Group} {i : ℕ} → ((j : ℕ) → has (g .left) j ≡ true → j < room) → room ≤ i → Passing rs g h i → Pass rs g h
+pub passing-all : {rs : List ℕ} {g h : Group} {i n : ℕ} → ((j : ℕ) → has (g .left) j ≡ true → j < n) → n ≤ i → Passing rs g h i → Pass rs g h
 passing-all below l p = record { kept = p .kept; fewer = p .fewer; done = λ z j e. p .seen z j (omega (arith, below j (p .fewer j e))) e }
 
 -- ---- passes until one adds nothing

@@ -1,32 +1,34 @@
 -- What is known of a Basis whose array is whole, how many rings it holds and which stands where, and of the sets of Assemblies.
 -- Assumes nothing.
 use mathlib.Core.Path.{_≡_, sym, ap, _∙_}
-use mathlib.Core.Bool.{_&&_}
-use mathlib.Core.List.{List, map}
+use mathlib.Core.Bool.{Bool, _&&_}
+use mathlib.Core.List.{List}
 use Prim.Native.Nat.{ℕ, _<_}
 use native.Mathlib.Omega.{arith}
+use borrow.Author.Tests.{lt-ltb, le-ltb}
 use lib.Dec.{eqb, ltb}
-use lib.ListN.{length, getD, length-map, List·getD-map}
+use lib.ListN.{length, getD}
 use lib.Seq.{length-take-le, getD-take}
 use Rattle.sets.specs.Bits.{has, size}
-use Rattle.sets.specs.Bond.{bits}
+use Rattle.sets.specs.Ring.{room}
+use Rattle.definitions.specs.Search.{setOf}
 use Rattle.definitions.specs.Table.{Table, maxBonds}
 use Rattle.definitions.specs.Basis.{basisRings}
 use Rattle.definitions.specs.Assembly.{assembliesOf, assemblies, ringsIn}
-use Rattle.definitions.proofs.Lists.{has-setOf, size-setOf}
+use Rattle.definitions.proofs.Lists.{has-setOf, size-setOf, listed-ext}
 use Rattle.definitions.proofs.Linking.{number, length-assemblies, length-rings-in}
-use Rattle.table.specs.Row.{none}
-use Rattle.basis.specs.Held.{ringsOf, Counted, BasisOf, membersOf, AssembliesOf}
+use Rattle.basis.specs.Held.{ringsOf, Counted, BasisOf, membersOf, picked, AssembliesOf}
 use Rattle.basis.specs.declared.basis.Basis.{Basis}
 use Rattle.basis.specs.declared.assembly.Assemblies.{Assemblies}
+use Rattle.basis.proofs.Collecting.{listed-gap}
 
 -- it holds as many rings as it counts
 pub rings-counted : (b : Basis) → length (b .rings) ≡ maxBonds → Counted b → length (ringsOf b) ≡ b .count
-rings-counted b long h = length-take-le (b .count) (map bits (b .rings)) (omega (arith, length-map (b .rings) bits))
+rings-counted b long h = length-take-le (b .count) (b .rings) (omega arith)
 
 -- ring i is the set at place i
-pub ring-at : (b : Basis) (i : ℕ) → i < b .count → bits (getD (b .rings) i none) ≡ getD (ringsOf b) i 0
-ring-at b i h = sym (getD-take (b .count) (map bits (b .rings)) i 0 h ∙ List·getD-map bits (b .rings) i none)
+pub ring-at : (b : Basis) (i : ℕ) → i < b .count → getD (b .rings) i 0 ≡ getD (ringsOf b) i 0
+ring-at b i h = sym (getD-take (b .count) (b .rings) i 0 h)
 
 -- the assemblies of the rings of a table's basis are those of the table
 pub held-assemblies : {M : Table} {b : Basis} → BasisOf M b → assembliesOf (ringsOf b) ≡ assemblies M
@@ -45,3 +47,21 @@ members-has {rs} h a i l = ap (λ (t : ℕ). has t i) (h .members a l) ∙ has-s
 -- the set of an assembly has as many rings as the assembly
 pub members-size : {rs : List ℕ} {s : Assemblies} → AssembliesOf rs s → (a : ℕ) → a < s .count → size (membersOf s a) ≡ length (ringsIn rs a)
 members-size {rs} h a l = ap size (h .members a l) ∙ size-setOf (length rs) (λ i. eqb (number rs i) a) ∙ sym (length-rings-in rs a)
+
+-- the basis rings of an assembly stand at the places that its set names
+pub picked-rings : {s : Assemblies} (b : Basis) → Counted b → length (ringsOf b) ≡ b .count → AssembliesOf (ringsOf b) s → (a : ℕ) → a < s .count
+    → picked (b .rings) (membersOf s a) ≡ ringsIn (ringsOf b) a
+unfolding ringsIn
+picked-rings b few long h a l =
+    ap (picked (b .rings)) (h .members a l)
+    ∙ listed-gap (has (setOf n p)) ring n room (omega (arith, long)) (λ k m j. has-setOf n p k ∙ ap (λ (t : Bool). t && p k) (le-ltb k n m))
+    ∙ listed-ext n (has (setOf n p)) p ring (λ i. getD (ringsOf b) i 0) (λ k m. has-setOf n p k ∙ ap (λ (t : Bool). t && p k) (lt-ltb k n m)) (λ k m t. ring-at b k (omega (arith, long)))
+  where
+    n : ℕ
+    n = length (ringsOf b)
+
+    p : ℕ → Bool
+    p i = eqb (getD (assembliesOf (ringsOf b)) i 0) a
+
+    ring : ℕ → ℕ
+    ring i = getD (b .rings) i 0

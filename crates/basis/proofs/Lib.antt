@@ -1,25 +1,19 @@
 -- Why the algorithms are right, and what the crates above cite.
 --     Putting       a number put into a set
---     Replacing     a loop that replaces the elements of an array
---     Labels        a bond with the labels of the rows that hold it
---     Cuts          fragments and their cuts, one bond more
---     Orthogonal    sets that share an even number of members
---     Summing       rows and labels, one bond more
---     Growing       what holds after each bond that Welch's algorithm tries
---     Completing    why its rings are the basis rings
---     Collecting    a loop over the members of a set that fills an array
+--     Replacing     what is known of an array of one value
+--     Leading       the list that leads each atom to a lower one of its fragment
+--     Ways          sets of forest bonds that meet all atoms evenly but two
+--     Collecting    a loop over the bonds that puts a set for some of them into an array
+--     Trying        what holds after each bond that is tried
 --     Holding       what a Basis and Assemblies hold: how many rings, and which stands where
 --     Grouping      a cluster grows by the rings that share a bond with it
 --     Numbering     the clusters are the assemblies, in order
 pub mod Putting
 pub mod Replacing
-pub mod Labels
-pub mod Cuts
-pub mod Orthogonal
-pub mod Summing
-pub mod Growing
-pub mod Completing
+pub mod Leading
+pub mod Ways
 pub mod Collecting
+pub mod Trying
 pub mod Holding
 pub mod Grouping
 pub mod Numbering

@@ -10,8 +10,7 @@ use lib.Dec.{eqb, ltb, leb}
 use lib.ListN.{length, getD, set, length-set}
 use lib.Seq.{getD-set-same, getD-set-other}
 use Rattle.sets.specs.Bits.{has, IsNext}
-use Rattle.sets.specs.Ring.{bits, room}
-use Rattle.sets.specs.declared.ring.RingSet.{RingSet}
+use Rattle.sets.specs.Ring.{room}
 use Rattle.sets.proofs.Laws.{ext}
 use Rattle.sets.proofs.Members.{common, meet-of}
 use Rattle.definitions.specs.Search.{setOf}
@@ -20,7 +19,7 @@ use Rattle.definitions.specs.Assembly.Linked.{same, by as shares}
 use Rattle.definitions.proofs.Tests.{by, clashes, and-both, both-and, not-passed, not-failed, same-test, eqb-self}
 use Rattle.definitions.proofs.Lists.{has-setOf, count-le}
 use Rattle.definitions.proofs.Linking.{number, first?, assembly-count, number-below, number-next, number-all, linked-test, linked-trans, linked-closed}
-use Rattle.basis.specs.Held.{noRings, membersOf, AssembliesOf}
+use Rattle.basis.specs.Held.{membersOf, AssembliesOf}
 use Rattle.basis.specs.Clusters.{Group, Grouped, Apart, FirstWith}
 use Rattle.basis.specs.declared.assembly.Assemblies.{Assemblies}
 
@@ -33,14 +32,14 @@ above true n x =
     (λ e. let p = leb-true (n + 1) x e in both-and (le-leb n x (omega arith)) (ap not (ne-eqb x n (omega arith))))
 
 -- the sets of the first n assemblies are found, and the rings of the others are left
-pub record Divided (rs : List ℕ) (sets : List RingSet) (n left : ℕ) : Type 0 where
+pub record Divided (rs : List ℕ) (sets : List ℕ) (n left : ℕ) : Type 0 where
   pub long : length sets ≡ room
   pub low : n ≤ assemblyCount rs
-  pub found : (a : ℕ) → a < n → bits (getD sets a noRings) ≡ setOf (length rs) (λ i. eqb (number rs i) a)
+  pub found : (a : ℕ) → a < n → getD sets a 0 ≡ setOf (length rs) (λ i. eqb (number rs i) a)
   pub rest : (i : ℕ) → has left i ≡ ltb i (length rs) && leb n (number rs i)
-  pub blank : (a : ℕ) → n ≤ a → bits (getD sets a noRings) ≡ 0
+  pub blank : (a : ℕ) → n ≤ a → getD sets a 0 ≡ 0
 
-pub divided-none : (rs : List ℕ) (sets : List RingSet) {left : ℕ} → length sets ≡ room → ((a : ℕ) → getD sets a noRings ≡ noRings) → left ≡ setOf (length rs) (λ i. true) → Divided rs sets 0 left
+pub divided-none : (rs : List ℕ) (sets : List ℕ) {left : ℕ} → length sets ≡ room → ((a : ℕ) → getD sets a 0 ≡ 0) → left ≡ setOf (length rs) (λ i. true) → Divided rs sets 0 left
 divided-none rs sets e z l = record {
   long = e;
   low = omega arith;
@@ -48,10 +47,10 @@ divided-none rs sets e z l = record {
   rest = λ i.
       ap (λ (s : ℕ). has s i) l ∙ has-setOf (length rs) (λ j. true) i
       ∙ ap (λ (b : Bool). ltb i (length rs) && b) (sym (le-leb 0 (number rs i) (omega arith)));
-  blank = λ a h. ap bits (z a);
+  blank = λ a h. z a;
 }
 
-module _ {rs : List ℕ} {sets : List RingSet} {n left : ℕ} (d : Divided rs sets n left) where
+module _ {rs : List ℕ} {sets : List ℕ} {n left : ℕ} (d : Divided rs sets n left) where
   -- a ring that is left has a number that is not used
   left-number : (i : ℕ) → has left i ≡ true → (i < length rs) × (n ≤ number rs i)
   left-number i h =
@@ -120,16 +119,16 @@ module _ {rs : List ℕ} {sets : List RingSet} {n left : ℕ} (d : Divided rs se
       rest-are : (i : ℕ) → has (g .left) i ≡ ltb i (length rs) && leb (n + 1) (number rs i)
       rest-are i = q .other i ∙ ap₂ (λ (x y : Bool). x && not y) (d .rest i) (members-are i) ∙ above (ltb i (length rs)) n (number rs i)
 
-      pub divided-more : {x : RingSet} → bits x ≡ g .members → Divided rs (set sets n x) (n + 1) (g .left)
+      pub divided-more : {x : ℕ} → x ≡ g .members → Divided rs (set sets n x) (n + 1) (g .left)
       divided-more {x} e = record {
         long = simp length-set (d .long);
         low = omega (arith, next-number, number-below rs first first-below);
         found = λ b l.
             by (eqb b n)
-            (λ t. rw (eqb-true b n t) (ap bits (getD-set-same sets n x noRings (omega (arith, divided-room, d .long))) ∙ e ∙ assembly))
-            (λ t. ap bits (getD-set-other sets n b x noRings (eqb-false b n t)) ∙ d .found b (omega (arith, eqb-false b n t)));
+            (λ t. rw (eqb-true b n t) (getD-set-same sets n x 0 (omega (arith, divided-room, d .long)) ∙ e ∙ assembly))
+            (λ t. getD-set-other sets n b x 0 (eqb-false b n t) ∙ d .found b (omega (arith, eqb-false b n t)));
         rest = rest-are;
-        blank = λ b l. ap bits (getD-set-other sets n b x noRings (omega arith)) ∙ d .blank b (omega arith);
+        blank = λ b l. getD-set-other sets n b x 0 (omega arith) ∙ d .blank b (omega arith);
       }
 
 -- ---- the assembly of a ring

@@ -1,7 +1,7 @@
 -- The definitions that the contracts of this crate cite beside those of `definitions`.
---     Steps       what the steps of Welch's algorithm do
+--     Climbing    what a climb to the first atom of a fragment does
 --     Held        what a Basis and Assemblies hold
 --     Clusters    what the steps that collect an assembly do
-pub mod Steps
+pub mod Climbing
 pub mod Held
 pub mod Clusters

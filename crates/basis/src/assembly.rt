@@ -7,7 +7,7 @@ use table::MAX_BONDS;
 ghost use mathlib.Core.Path.{_≡_};
 ghost use mathlib.Core.Bool.{true};
 ghost use Prim.Native.Nat.{ℕ, _≤_, _<_};
-ghost use lib.ListN.{length};
+ghost use lib.ListN.{length, getD, take};
 ghost use Rattle.sets.specs.Bits.{has};
 ghost use Rattle.sets.specs.Bond.{bits as bondBits};
 ghost use Rattle.sets.specs.Ring.{bits as ringBits};
@@ -15,12 +15,12 @@ ghost use Rattle.definitions.specs.Search.{setOf};
 ghost use Rattle.definitions.specs.Table.{maxBonds};
 ghost use Rattle.definitions.specs.Assembly.{assembliesOf};
 ghost use Rattle.definitions.specs.Answer.{over};
-ghost use Rattle.basis.specs.Held.{ringsOf, Counted, membersOf, AssembliesOf};
+ghost use Rattle.basis.specs.Held.{ringsOf, Counted, AssembliesOf};
 ghost use Rattle.basis.specs.Clusters.{groupOf, joinedBy, Grouped, Apart, Pass, FirstWith};
 
-// The assemblies in order, each as the set of its basis rings: the first count sets.
+// The assemblies in order, each as the set of its basis rings: the first count words, each the word of a set.
 pub struct Assemblies {
-    pub members: [RingSet; MAX_BONDS],
+    pub members: [u64; MAX_BONDS],
     pub count: usize,
 }
 
@@ -48,15 +48,14 @@ impl Cluster {
     }
 
     // One pass over the rings left.
-    fn passed(self, basis: Basis) -> Cluster
-        requires { ⌜ Counted basis × ((i : ℕ) → has (ringBits (self .left)) i ≡ true → i < basis .count) ⌝ }
-        ensures { λ r. ⌜ Pass (ringsOf basis) (groupOf self) (groupOf r) ⌝ }
+    fn passed(self, rings: &[u64; MAX_BONDS], count: usize) -> Cluster
+        requires { ⌜ (count ≤ maxBonds) × ((i : ℕ) → has (ringBits (self .left)) i ≡ true → i < count) ⌝ }
+        ensures { λ r. ⌜ Pass (take count (now (rings .entry))) (groupOf self) (groupOf r) ⌝ }
     {
         let mut cluster = self;
         let mut i = cluster.left.next(0);
-        while i < MAX_BONDS {
-            let ring = basis.rings[i];
-            cluster = cluster.joined(i, ring);
+        while i < count {
+            cluster = cluster.joined(i, BondSet::of_word(rings[i]));
             i = cluster.left.next(i + 1);
         }
         cluster
@@ -64,20 +63,19 @@ impl Cluster {
 }
 
 // The cluster of a ring, collected from the rings left.
-fn cluster_of(basis: Basis, first: usize, left: RingSet) -> Cluster
-    requires { ⌜ Counted basis × (has (ringBits left) first ≡ true) × ((i : ℕ) → has (ringBits left) i ≡ true → i < basis .count) ⌝ }
-    ensures { λ r. ⌜ Grouped (ringsOf basis) first (ringBits left) (groupOf r) × Apart (ringsOf basis) (groupOf r) ⌝ }
+fn cluster_of(rings: &[u64; MAX_BONDS], count: usize, first: usize, left: RingSet) -> Cluster
+    requires { ⌜ (length (now rings) ≡ maxBonds) × (count ≤ maxBonds) × (has (ringBits left) first ≡ true) × ((i : ℕ) → has (ringBits left) i ≡ true → i < count) ⌝ }
+    ensures { λ r. ⌜ Grouped (take count (now (rings .entry))) first (ringBits left) (groupOf r) × Apart (take count (now (rings .entry))) (groupOf r) ⌝ }
 {
-    let bonds = basis.rings[first];
     let mut cluster = Cluster {
         members: RingSet::only(first),
-        bonds,
+        bonds: BondSet::of_word(rings[first]),
         left: left.without(first),
     };
     let mut grew = true;
     while grew {
         let before = cluster.left.size();
-        cluster = cluster.passed(basis);
+        cluster = cluster.passed(rings, count);
         grew = cluster.left.size() < before;
     }
     cluster
@@ -102,14 +100,13 @@ pub fn assemblies_of(basis: Basis) -> Assemblies
     requires { ⌜ Counted basis ⌝ }
     ensures { λ r. ⌜ AssembliesOf (ringsOf basis) r ⌝ }
 {
-    let mut members = [RingSet::EMPTY; MAX_BONDS];
+    let mut members = [0u64; MAX_BONDS];
     let mut count: usize = 0;
     let mut left = rings_below(basis.count);
     let mut first = left.next(0);
     while first < MAX_BONDS {
-        let cluster = cluster_of(basis, first, left);
-        let found = cluster.members;
-        members[count] = found;
+        let cluster = cluster_of(&basis.rings, basis.count, first, left);
+        members[count] = cluster.members.0;
         count += 1;
         left = cluster.left;
         first = left.next(0);
@@ -118,14 +115,13 @@ pub fn assemblies_of(basis: Basis) -> Assemblies
 }
 
 // The first assembly that has basis ring i, or the number of assemblies where there is none.
-fn assembly_with(assemblies: Assemblies, i: usize) -> usize
-    requires { ⌜ assemblies .count ≤ maxBonds ⌝ }
-    ensures { λ r. ⌜ FirstWith (assemblies .count) (membersOf assemblies) i r ⌝ }
+fn assembly_with(members: &[u64; MAX_BONDS], count: usize, i: usize) -> usize
+    requires { ⌜ count ≤ maxBonds ⌝ }
+    ensures { λ r. ⌜ FirstWith count (λ a. getD (now (members .entry)) a 0) i r ⌝ }
 {
     let mut a: usize = 0;
-    while a < assemblies.count {
-        let members = assemblies.members[a];
-        if members.has(i) {
+    while a < count {
+        if RingSet::of_word(members[a]).has(i) {
             return a;
         }
         a += 1;
@@ -140,7 +136,7 @@ pub(crate) fn write_assemblies(basis: Basis, assemblies: Assemblies, out: &mut [
 {
     let mut i: usize = 0;
     while i < basis.count {
-        out[i] = assembly_with(assemblies, i) as u8;
+        out[i] = assembly_with(&assemblies.members, assemblies.count, i) as u8;
         i += 1;
     }
 }

@@ -1,57 +1,51 @@
-// The basis rings of a table, by Welch's first algorithm.
-use super::welch::Forest;
-use super::welch::UNCHOSEN;
+// The basis rings of a table, by climbing from the ends of each bond to the first atoms of their fragments.
+use super::climb::apart;
+use super::climb::climb_from;
+use super::climb::join;
+use super::climb::settle;
 use sets::BondSet;
 use table::MAX_ATOMS;
 use table::MAX_BONDS;
+use table::end_at;
 ghost use mathlib.Core.Path.{_≡_};
 ghost use Prim.Native.Nat.{_≤_};
 ghost use lib.ListN.{length};
-ghost use Rattle.sets.specs.Bond.{bits};
 ghost use Rattle.definitions.specs.Table.{table, refusal};
 ghost use Rattle.definitions.specs.Answer.{over};
-ghost use Rattle.basis.specs.Steps.{rowAt, labelAt, Complete};
 ghost use Rattle.basis.specs.Held.{ringsOf, Counted, BasisOf};
 
-// The basis rings of a table in order of closure bonds: the first count sets.
+// The basis rings of a table in order of closure bonds: the first count words, each the word of a set, so that they can be lent.
 pub struct Basis {
-    pub rings: [BondSet; MAX_BONDS],
+    pub rings: [u64; MAX_BONDS],
     pub count: usize,
 }
 
-// All bonds of an accepted table tried, in order.
-fn grown(atoms: u64, bonds: &[u8]) -> Forest
-    requires { ⌜ refusal (table atoms (now bonds)) ≡ 0 ⌝ }
-    ensures { λ r. ⌜ Complete (table atoms (now (bonds .entry))) (rowAt (r .rows)) (labelAt (r .labels)) (bits (r .closures)) ⌝ }
-{
-    let rows = table::rows(bonds);
-    let mut forest = Forest {
-        rows,
-        labels: [UNCHOSEN; MAX_ATOMS],
-        closures: BondSet::EMPTY,
-    };
-    let mut k: usize = 0;
-    while k < bonds.len() / 2 {
-        forest = forest.with_bond(atoms as usize, k);
-        k += 1;
-    }
-    forest
-}
-
-// The basis rings of an accepted table.
+// The basis rings of an accepted table. The bonds are tried in order: one between two fragments makes them one, and one within a
+// fragment, with the ways from its ends to the first atom, is a basis ring.
 pub fn basis_of(atoms: u64, bonds: &[u8]) -> Basis
     requires { ⌜ refusal (table atoms (now bonds)) ≡ 0 ⌝ }
     ensures { λ r. ⌜ BasisOf (table atoms (now (bonds .entry))) r ⌝ }
 {
-    let forest = grown(atoms, bonds);
-    let closures = forest.closures;
-    let mut rings = [BondSet::EMPTY; MAX_BONDS];
+    let mut lower = apart(atoms as usize);
+    let mut ways = [0u64; MAX_ATOMS];
+    let mut rings = [0u64; MAX_BONDS];
     let mut count: usize = 0;
-    let mut k = closures.next(0);
-    while k < MAX_BONDS {
-        rings[count] = forest.ring_of(atoms as usize, k);
-        count += 1;
-        k = closures.next(k + 1);
+    let mut k: usize = 0;
+    while k < bonds.len() / 2 {
+        let tail = end_at(bonds, 2 * k);
+        let one = climb_from(&lower, &ways, tail);
+        settle(&mut lower, &mut ways, tail, one);
+        let head = end_at(bonds, 2 * k + 1);
+        let other = climb_from(&lower, &ways, head);
+        settle(&mut lower, &mut ways, head, other);
+        let round = one.bonds.sum(other.bonds).with(k);
+        if one.atom == other.atom {
+            rings[count] = round.0;
+            count += 1;
+        } else {
+            join(&mut lower, &mut ways, one.atom, other.atom, round);
+        }
+        k += 1;
     }
     Basis { rings, count }
 }
@@ -63,8 +57,7 @@ pub(crate) fn write_rings(basis: Basis, out: &mut [u64])
 {
     let mut i: usize = 0;
     while i < basis.count {
-        let ring = basis.rings[i];
-        out[i] = ring.0;
+        out[i] = basis.rings[i];
         i += 1;
     }
 }

@@ -1,7 +1,7 @@
 // The basis rings of a table and the assemblies that they form.
 mod assembly;
 mod basis;
-mod welch;
+mod climb;
 
 pub use assembly::Assemblies;
 pub use assembly::assemblies_of;

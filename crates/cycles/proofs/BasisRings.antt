@@ -28,7 +28,7 @@ use Rattle.cycles.proofs.Xor.{xor-self, xor-comm, sums}
 use Rattle.cycles.proofs.Evens.{oddAt, odd-xor, odd-zero, odd-pow, even-of, member-some, meets-xor, even-top, even-eq}
 
 -- one member more is a sum
-with-xor : (s k : ℕ) → has s k ≡ false → with s k ≡ bitXor s (2 ^ k)
+pub with-xor : (s k : ℕ) → has s k ≡ false → with s k ≡ bitXor s (2 ^ k)
 unfolding with
 with-xor s k h = let e = and-pow-none s k h in or-disjoint s (2 ^ k) e ∙ sym (xor-disjoint s (2 ^ k) e)
 

@@ -103,19 +103,19 @@ pub most-rings : mostRings ≡ 6547
 most-rings = refl
 
 -- the last term apart
-total-last : (n : ℕ) (g : ℕ → ℕ) → total (listed (suc n) (λ a. true) g) ≡ total (listed n (λ a. true) g) + g n
+pub total-last : (n : ℕ) (g : ℕ → ℕ) → total (listed (suc n) (λ a. true) g) ≡ total (listed n (λ a. true) g) + g n
 unfolding listed total
 total-last n g = total-append (listed n (λ a. true) g) (g n ∷ []) ∙ omega arith
 
 -- a share that holds of each term holds of the total
-total-share : (c d n : ℕ) (g h : ℕ → ℕ) → ((a : ℕ) → a < n → g a * c ≤ d * h a) → total (listed n (λ a. true) g) * c ≤ d * total (listed n (λ a. true) h)
+pub total-share : (c d n : ℕ) (g h : ℕ → ℕ) → ((a : ℕ) → a < n → g a * c ≤ d * h a) → total (listed n (λ a. true) g) * c ≤ d * total (listed n (λ a. true) h)
 unfolding listed total
 total-share c d zero g h f = omega arith
 total-share c d (suc n) g h f =
     rw (total-last n g, total-last n h) (omega (arith, total-share c d n g h (λ a l. f a (omega arith)), f n (omega arith)))
 
 -- an assembly that is not tangled has at most 1023 / 10 sums for each basis ring
-sums-share : (k : ℕ) → k ≤ maxAssembly → (2 ^ k - 1) * maxAssembly ≤ (2 ^ maxAssembly - 1) * k
+pub sums-share : (k : ℕ) → k ≤ maxAssembly → (2 ^ k - 1) * maxAssembly ≤ (2 ^ maxAssembly - 1) * k
 unfolding every
 sums-share k l =
     leb-true ((2 ^ k - 1) * maxAssembly) ((2 ^ maxAssembly - 1) * k)

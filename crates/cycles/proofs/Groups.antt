@@ -1,35 +1,36 @@
--- Rings by groups. A bond of an even set decides: where no other even set inside it holds that bond, it is a ring, since of two even
--- sets that make it up one holds the bond. So a sum whose highest basis ring is i is a ring where no other sum with that highest
--- basis ring is inside it. Assumes nothing.
+-- Rings by groups. Of two even sets that make up a third one has not its highest bond, and inside that one lies a ring. So a sum whose
+-- highest basis ring is i is a ring where no ring is inside it whose highest basis ring is one before i. Assumes nothing.
 use mathlib.Core.Path.{_≡_, sym, ap, ap₂, _∙_}
 use mathlib.Core.Logic.{_↔_, _≢_}
-use mathlib.Core.Bool.{Bool, true, false, xor}
+use mathlib.Core.Bool.{Bool, true, false, _&&_, not, xor}
 use mathlib.Core.List.{List, List·Memᴰ as In}
-use Prim.Native.Nat.{ℕ, suc, _^_, _≤_, _<_}
+use Prim.Native.Nat.{ℕ, zero, suc, _+_, _-_, _^_, _≤_, _<_}
 use native.Mathlib.Nat.{lt-of-lt-of-le, pow-suc}
 use native.Mathlib.Omega.{arith}
-use lib.Bits.{bitXor, xor-lt, xor-self}
-use lib.Dec.{eqb}
+use lib.Bits.{bitXor, xor-lt}
+use lib.Dec.{eqb, ltb}
 use lib.ListN.{length, getD, take}
 use lib.Pow.{pow-mono}
-use borrow.Author.Tests.{eqb-true, eqb-false}
-use Rattle.sets.specs.Bits.{has, Sub}
+use borrow.Author.Tests.{eqb-true, eqb-false, eq-eqb, ne-eqb, ltb-true, ltb-false}
+use Rattle.sets.specs.Bits.{has, Sub, sub}
 use Rattle.sets.proofs.Laws.{below, member-below, has-xor, has-above}
 use Rattle.sets.proofs.Members.{sub-refl, sub-trans}
-use Rattle.definitions.specs.Search.{count, listed}
+use Rattle.sets.proofs.Size.{test-sub, xor-zero}
+use Rattle.definitions.specs.Search.{every, count, listed}
 use Rattle.definitions.specs.Table.{Table, bonds}
-use Rattle.definitions.specs.Ring.{Even, Ring}
+use Rattle.definitions.specs.Ring.{Even, Ring, even?, ring?}
 use Rattle.definitions.specs.Basis.{Closure, closure?, basisRing, basisRings}
 use Rattle.definitions.specs.Assembly.{assemblies, assemblyCount, ringsIn}
 use Rattle.definitions.specs.Smallest.{SumOf}
-use Rattle.definitions.proofs.Tests.{by, clashes, not-passed, and-both, both-and, eqb-self}
-use Rattle.definitions.proofs.Lists.{count-lt, count-find, length-listed, listed-in, listed-place}
+use Rattle.definitions.proofs.Tests.{by, clashes, not-passed, not-failed, and-both, both-and, eqb-self, every-fails}
+use Rattle.definitions.proofs.Lists.{count-lt, count-mono, count-find, length-listed, listed-in, listed-place}
 use Rattle.definitions.proofs.Refusals.{Valid}
+use Rattle.definitions.proofs.Rings.{even-test, ring-test}
 use Rattle.definitions.proofs.Paths.{closure-test}
 use Rattle.definitions.proofs.Linking.{number-below}
-use Rattle.spans.proofs.Spans.{xor-cancel, xor-undo, span-sub}
+use Rattle.spans.proofs.Spans.{xor-undo, span-sub}
 use Rattle.spans.proofs.Choice.{sum→span, span→sum}
-use Rattle.cycles.proofs.Xor.{xor-self as xor-same, xor-false, false-xor}
+use Rattle.cycles.proofs.Xor.{xor-self as xor-same, false-xor}
 use Rattle.cycles.proofs.Sums.{sum-listed, sum-upto, sum-lt, take-listed}
 use Rattle.cycles.proofs.Evens.{member-some, even-xor, even-top}
 use Rattle.cycles.proofs.BasisRings.{basis-even, basis-has, basis-top}
@@ -43,23 +44,17 @@ sum-inside s t u f g j h =
     by (has s j) (f j) (λ e. g j (sym (ap (λ (x : Bool). xor x (has t j)) e ∙ false-xor (has t j)) ∙ sym (has-xor s t j) ∙ h))
 
 module _ (M : Table) where
-  -- an even set is a ring where no other even set inside it holds a given bond of it
-  pub ring-by-bond : {s : ℕ} (k : ℕ) → Even M s → has s k ≡ true → Ring M s ↔ ((t : ℕ) → Even M t → has t k ≡ true → Sub t s → t ≡ s)
-  ring-by-bond {s} k e h = (
-    λ r t f u inside. r .least t f (member-some k u) inside,
-    λ only.
-        record {
-          even = e;
-          some = member-some k h;
-          least = λ t f some inside.
-              by (has t k) (λ u. only t f u inside)
-              (λ u. absurd (some (empty t inside (only (bitXor s t) (even-xor M e f)
-              (has-xor s t k ∙ ap₂ xor h u ∙ xor-false true) (sum-inside s t s (sub-refl s) inside)))));
-        },
-  )
-    where
-      empty : (t : ℕ) → Sub t s → bitXor s t ≡ s → t ≡ 0
-      empty t inside q = sym (xor-cancel s t) ∙ ap (bitXor s) q ∙ xor-self s
+  -- inside an even set that is not empty lies a ring
+  pub ring-inside : (n s : ℕ) → s < n → Even M s → s ≢ 0 → (t : ℕ) × Ring M t × Sub t s
+  unfolding ring?
+  ring-inside zero s l e some = absurd (omega arith)
+  ring-inside (suc n) s l e some =
+      by (every (s - 1) (λ t. not (sub (t + 1) s && even? M (t + 1))))
+      (λ h. (s, ring-test M s .0 (both-and (ap not (ne-eqb s 0 some)) (both-and (even-test M s .1 e) h)), sub-refl s))
+      (λ h. let (k, b, q) = every-fails (s - 1) (λ t. not (sub (t + 1) s && even? M (t + 1))) h in
+      let (i, v) = and-both (sub (k + 1) s) (even? M (k + 1)) (not-failed _ (λ f. clashes (ap not f) q)) in
+      let (t, r, part) = ring-inside n (k + 1) (omega arith) (even-test M (k + 1) .0 v) (λ z. omega arith) in
+      (t, r, sub-trans t (k + 1) s part (test-sub (k + 1) s i)))
 
 module _ {M : Table} (valid : Valid M) where
   -- the basis rings of an assembly whose closure bonds are below k
@@ -142,16 +137,37 @@ module _ {M : Table} (valid : Valid M) where
         },
   )
 
-  -- such a sum is a ring where no other of the same closure bond is inside it
-  grouped-rings : {a k s : ℕ} → Grouped a k s → Ring M s ↔ ((t : ℕ) → Grouped a k t → Sub t s → t ≡ s)
+  -- a ring of the assembly's bonds is such a sum for its highest bond
+  ring-grouped : {a v : ℕ} → Ring M v → Sub v (assemblyBonds M a) → (m : ℕ) × (has v m ≡ true) × Grouped a m v
+  ring-grouped {a} {v} r inside =
+      let (m, h, top, c) = even-top valid (r .even) (r .some) in
+      let closes = closure-test valid m (c .bond) .1 c in
+      let own : assemblyOf M m ≡ a = assemblies-disjoint valid m (basis-inside (assemblyOf M m) m c (both-and closes (eqb-self (assemblyOf M m))) m (basis-has valid c)) (inside m h) in
+      (m, h, grouped-sums a m v .1 (both-and closes (eq-eqb (assemblyOf M m) a own), (r .even, inside), h, top))
+
+  -- such a sum is a ring where no ring of a lower closure bond is inside it: of two even sets that make it up one has not the bond k
+  grouped-rings : {a k s : ℕ} → Grouped a k s → Ring M s ↔ ((m t : ℕ) → m < k → Grouped a m t → Ring M t → Sub t s → ⊥)
   grouped-rings {a} {k} {s} g =
       let (c, (e, inside), h, top) = grouped-sums a k s .0 g in
-      let decides = ring-by-bond M k e h in (
-        λ r t f part. let (_, (e′, _), h′, _) = grouped-sums a k t .0 f in decides .0 r t e′ h′ part,
-        λ only. decides .1 (λ t e′ h′ part.
-            only t (grouped-sums a k t .1
-            (c, (e′, sub-trans t s (assemblyBonds M a) part inside), h′, below t (suc k) (λ j m. not-passed (has t j) (λ u. clashes (part j u) (has-above (suc k) j top m)))))
-            part),
+      let nothing : (u : ℕ) → ((m t : ℕ) → m < k → Grouped a m t → Ring M t → Sub t s → ⊥) → Even M u → Sub u s → has u k ≡ false → u ≡ 0
+      = λ u only f part lost. by (eqb u 0) (eqb-true u 0) (λ z.
+      let (v, r, within) = ring-inside M (suc u) u (omega arith) f (eqb-false u 0 z) in
+      let (m, held, low) = ring-grouped r (sub-trans v s (assemblyBonds M a) (sub-trans v u s within part) inside) in
+      let other : m ≢ k = λ q. clashes (within m held) (rw (← q) at lost) in
+      absurd (only m v (omega (arith, member-below (suc k) m top (part m (within m held)), other)) low r (sub-trans v u s within part))) in (
+        λ r m t l f q part.
+            let (_, _, _, low) = grouped-sums a m t .0 f in
+            let same : t ≡ s = r .least t (q .even) (q .some) part in
+            omega (arith, member-below (suc m) k (rw same at low) h),
+        λ only.
+            record {
+              even = e;
+              some = member-some k h;
+              least = λ t f some part.
+                  by (has t k)
+                  (λ u. sym (xor-zero s t (nothing (bitXor s t) only (even-xor M e f) (sum-inside s t s (sub-refl s) part) (has-xor s t k ∙ ap₂ xor h u ∙ xor-same true))))
+                  (λ u. absurd (some (nothing t only f part u)));
+            },
       )
 
 -- ---- the same over the list of an assembly's basis rings
@@ -189,14 +205,19 @@ module _ {M : Table} (valid : Valid M) where
             },
       )
 
-  -- a sum whose highest basis ring is the i-th of an assembly is a ring where no other such sum is inside it
-  pub ring-by-group : {a i s : ℕ} → InGroup M a i s → Ring M s ↔ ((t : ℕ) → InGroup M a i t → Sub t s → t ≡ s)
-  ring-by-group {a} {i} {s} g =
+  -- a sum whose highest basis ring is the i-th of an assembly is a ring where no ring is inside it whose highest is one before
+  pub ring-by-earlier : {a i s : ℕ} → InGroup M a i s → Ring M s ↔ ((j t : ℕ) → j < i → InGroup M a j t → Ring M t → Sub t s → ⊥)
+  ring-by-earlier {a} {i} {s} g =
       let (k, l, t, e) = group-found a i (g .place) in
       let rings = grouped-rings valid (group-at a k s l t .0 (rw e g)) in (
-        λ r u f part. rings .0 r u (group-at a k u l t .0 (rw e f)) part,
-        λ only. rings .1 (λ u f part. only u (rw e at (group-at a k u l t .1 f)) part),
+        λ r j u b f q part.
+            let (m, l′, t′, e′) = group-found a j (f .place) in
+            rings .0 r m u (before a k m (omega arith)) (group-at a m u l′ t′ .0 (rw e′ f)) q part,
+        λ only. rings .1 (λ m u b f q part. only (count m (closesAssembly M a)) u (omega (arith, e, count-lt (closesAssembly M a) k m b (f .closes))) (group-at a m u (f .bond) (f .closes) .1 f) q part),
       )
+    where
+      before : (a k m : ℕ) → count m (closesAssembly M a) < count k (closesAssembly M a) → m < k
+      before a k m h = by (ltb m k) (ltb-true m k) (λ f. absurd (omega (arith, count-mono (closesAssembly M a) k m (ltb-false m k f))))
 
   -- it is an even set of the assembly's bonds, and not empty
   pub group-even : {a i s : ℕ} → InGroup M a i s → (Even M s × Sub s (assemblyBonds M a)) × (s ≢ 0)
@@ -209,16 +230,14 @@ module _ {M : Table} (valid : Valid M) where
   pub ring-in-group : {s : ℕ} → Ring M s → (a : ℕ) × (a < assemblyCount (basisRings M)) × (i : ℕ) × InGroup M a i s
   unfolding assemblies
   ring-in-group {s} r =
-      let (k, h, top, c) = even-top valid (r .even) (r .some) in
-      let a : ℕ = assemblyOf M k in
-      let closes : closesAssembly M a k ≡ true = both-and (closure-test valid k (c .bond) .1 c) (eqb-self a) in
-      let (a′, o) = ring-in-one-assembly valid r in
-      let (_, inside) = assembly-evens valid a′ s .1 o in
-      let own : a′ ≡ a = assemblies-disjoint valid k (inside k h) (basis-inside valid a k c closes k (basis-has valid c)) in (
+      let (a, o) = ring-in-one-assembly valid r in
+      let (_, inside) = assembly-evens valid a s .1 o in
+      let (k, _, g) = ring-grouped valid r inside in
+      let own : assemblyOf M k ≡ a = eqb-true (assemblyOf M k) a (and-both (closure? M k) _ (g .closes) .1) in (
         a,
-        number-below (basisRings M) (placeOf M k) (place-lt valid c),
+        rw own at (number-below (basisRings M) (placeOf M k) (place-lt valid (grouped-closure valid g))),
         count k (closesAssembly M a),
-        group-at a k s (c .bond) closes .1 (grouped-sums valid a k s .1 (closes, assembly-evens valid a s .1 (rw own at o), h, top)),
+        group-at a k s (g .bond) (g .closes) .1 g,
       )
 
   -- and no set is in two

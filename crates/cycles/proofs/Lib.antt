@@ -7,7 +7,7 @@
 --     EvenSums     every even set is the sum of the basis rings of its closure bonds, in one way
 --     BasisList    the list of basis rings: places, sums, independence
 --     Assemblies   a ring is a sum of basis rings of one assembly; the bonds of an assembly are a class
---     Groups       a sum is a ring where no other with the same highest basis ring is inside it
+--     Groups       a sum is a ring where no ring with a lower highest basis ring is inside it
 --     Smallest     the smallest basis is one of rings, with the fewest bonds in total
 --     Bound        how many rings there can be
 pub mod Xor

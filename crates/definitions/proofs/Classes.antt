@@ -57,12 +57,12 @@ unfoldable pub merged : ℕ → ℕ → ℕ → ℕ
 merged x y z = cond (eqb z (max x y)) (min x y) z
 
 -- the larger number of the two gives way
-merged-max : (x y z : ℕ) → z ≡ max x y → merged x y z ≡ min x y
+pub merged-max : (x y z : ℕ) → z ≡ max x y → merged x y z ≡ min x y
 unfolding merged
 merged-max x y z e = rw (eq-eqb z (max x y) e)
 
 -- every other number stays
-merged-other : (x y z : ℕ) → eqb z (max x y) ≡ false → merged x y z ≡ z
+pub merged-other : (x y z : ℕ) → eqb z (max x y) ≡ false → merged x y z ≡ z
 unfolding merged
 merged-other x y z e = rw e
 

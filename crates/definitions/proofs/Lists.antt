@@ -434,6 +434,12 @@ unfolding gather
 gather-ext zero f g h = refl
 gather-ext (suc n) f g h = ap₂ _++_ (gather-ext n f g (λ k l. h k (omega arith))) (h n (omega arith))
 
+-- what is gathered does not grow shorter
+pub gather-mono : {A : Type 0} (f : ℕ → List A) (k n : ℕ) → k ≤ n → length (gather k f) ≤ length (gather n f)
+unfolding gather
+gather-mono f k n h =
+    le-ind (λ m. length (gather k f) ≤ length (gather m f)) (le-refl (length (gather k f))) (λ m (l : k ≤ m) ih. omega (arith, length-append (gather m f) (f m))) n h
+
 -- the image of what is gathered is gathered from the images
 pub gather-map : {A B : Type 0} (g : A → B) (n : ℕ) (f : ℕ → List A) → map g (gather n f) ≡ gather n (λ k. map g (f k))
 unfolding gather

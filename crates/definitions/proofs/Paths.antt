@@ -211,7 +211,7 @@ fragment-ends M k j l = classes-bond (M .atoms) (endsBelow M k) (ends-of M k j l
 
 module _ {M : Table} (v : Valid M) where
   -- the pairs are of atoms of the table
-  ends-within : (k : ℕ) → k ≤ bonds M → Within (M .atoms) (endsBelow M k)
+  pub ends-within : (k : ℕ) → k ≤ bonds M → Within (M .atoms) (endsBelow M k)
   ends-within k h e i =
       let (j, l, p, q) = ends-in M k i in
       let inside = v .inside j (omega arith) in

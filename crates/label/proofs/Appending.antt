@@ -5,17 +5,16 @@
 --     Begun text lent rest out at       calls that append one part after another over the start of a list: `rest` is left
 -- Each has laws `-none` at the start, `-more` for one turn, `-room` and `-length` at any, `-all` at the end.
 -- Assumes nothing.
-use mathlib.Core.Path.{_≡_, refl, sym, ap, _∙_}
+use mathlib.Core.Path.{_≡_, refl, sym, ap, ap₂, _∙_}
 use mathlib.Core.List.{List, [], _∷_, _++_, append-assoc}
 use Prim.Native.Nat.{ℕ, _+_, _<_, _≤_}
 use native.Mathlib.Numerals.{add-one}
 use native.Mathlib.Omega.{arith}
 use lib.ListN.{length, getD, take, drop, set, length-append, length-drop, take-append-drop}
-use lib.Seq.{set-split, take-at, drop-at, drop-drop, length-take-le, take-all, paste, paste-zero, paste-suc, length-paste}
+use lib.Seq.{set-split, take-at, drop-at, take-append-le, take-take, drop-drop, length-take-le, take-all, paste, paste-zero, paste-suc, length-paste}
 use Rattle.definitions.specs.Search.{gather}
 use Rattle.definitions.specs.Answer.{over}
-use Rattle.definitions.proofs.Lists.{gather-step, gather-zero}
-use Rattle.rings.proofs.Perceiving.{gather-mono}
+use Rattle.definitions.proofs.Lists.{gather-step, gather-zero, gather-mono}
 use Rattle.label.specs.Text.{Appended}
 
 -- nothing appended leaves the list as it is
@@ -61,6 +60,27 @@ module _ {l m : List ℕ} {i j : ℕ} {s : List ℕ} where
     -- the list keeps its length
     pub appended-length : j ≤ length l → length m ≡ length l
     appended-length h = ap length parted ∙ length-append (take i l ++ s) (drop j l) ∙ omega (arith, start, length-drop j l)
+
+-- a text written before a text that stands already is their text together
+pub appended-before : {l m r s t : List ℕ} {i j k next : ℕ} → j ≡ i + length s → j ≤ length l → Appended l j t m k → Appended m i s r next → Appended l i (s ++ t) r k
+appended-before {l} {m} {r} {s} {t} {i} {j} {k} {next} e h a b = record {
+  end = omega (arith, a .end, length-append s t);
+  list =
+      b .list
+      ∙ ap₂ (λ (x y : List ℕ). x ++ (s ++ y)) front back
+      ∙ ap (λ (x : List ℕ). take i l ++ x) (sym (append-assoc s t (drop k l)));
+}
+  where
+    front : take i m ≡ take i l
+    front =
+        ap (take i) (a .list)
+        ∙ take-append-le i (take j l) (t ++ drop k l) (omega (arith, length-take-le j l h))
+        ∙ take-take i j l (omega arith)
+
+    back : drop next m ≡ t ++ drop k l
+    back =
+        ap₂ drop (let q : next ≡ j = omega (arith, b .end) in q) (a .list)
+        ∙ drop-at (take j l) (t ++ drop k l) j (length-take-le j l h)
 
 -- what is appended from the start stands over the list
 pub appended-over : {l m s : List ℕ} {n : ℕ} → Appended l 0 s m n → m ≡ over s l

@@ -32,11 +32,13 @@ use Rattle.definitions.proofs.Refusals.{accepted, rings-accepted}
 use Rattle.cycles.proofs.BasisList.{basis-ring-in}
 use Rattle.cycles.proofs.Smallest.{smallest-basis-length}
 use Rattle.cycles.proofs.Bound.{all-rings-few}
+use Rattle.rings.specs.Sizes.{allSizes}
+use Rattle.rings.proofs.Sizing.{occurs-le}
 use Rattle.reduced.proofs.Assembled.{reducedBasis-counted}
-use Rattle.label.specs.Sizes.{allSizes, line}
+use Rattle.label.specs.Sizes.{line}
 use Rattle.label.specs.Text.{valueFrom, valueOf}
 use Rattle.label.proofs.Bytes.{length-bytesOfAll}
-use Rattle.label.proofs.Counting.{occurs-le, line-at-most}
+use Rattle.label.proofs.Counting.{line-at-most}
 use Rattle.label.proofs.Handing.{few-basis-rings}
 
 -- ---- bytes and the number that they spell

@@ -2,7 +2,7 @@
 --     Appending    text that grows in a lent list
 --     Bytes        the bytes of numbers
 --     Tagging      tagged fields
---     Counting     the sets of each size, and the histogram
+--     Counting     the lines of the histogram
 --     Pairing      the pairs of the assemblies, put in order
 --     Handing      the answers of the steps below, handed on
 --     Labelling    what is worked out of a table makes its label

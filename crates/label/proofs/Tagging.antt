@@ -2,13 +2,13 @@
 -- Assumes nothing.
 use mathlib.Core.Path.{_≡_, ap, _∙_}
 use mathlib.Core.List.{List, [], _∷_, _++_}
-use Prim.Native.Nat.{ℕ, suc, _+_, _*_, _≤_}
+use Prim.Native.Nat.{ℕ, suc, _+_, _-_, _*_, _≤_}
 use native.Mathlib.Omega.{arith}
 use lib.ListN.{length, take, length-append}
 use Rattle.definitions.specs.Label.{bytesOf, bytesOfAll, field, frerejacqueTag, ringsTag, smallestTag, assembliesTag, sidecarTag, setBytes}
 use Rattle.label.specs.Sizes.{lines}
 use Rattle.label.specs.Text.{Appended, labelText}
-use Rattle.label.proofs.Appending.{appended-more}
+use Rattle.label.proofs.Appending.{appended-more, appended-before}
 use Rattle.label.proofs.Bytes.{length-bytesOf, length-bytesOfAll, numbers-bytes}
 
 -- a field is three bytes longer than its content
@@ -32,9 +32,21 @@ module _ (l : List ℕ) (at tag : ℕ) (content : List ℕ) (room : at + length 
     unfolding field
     field-appended a = rw (← told) (appended-more (omega arith) head a)
 
+  -- there is room for the content past the head
+  pub body-fits : at + 3 + length content ≤ length l
+  body-fits = omega (arith, length-field tag content)
+
+  -- the head written before its content is the field
+  pub field-before : {m r : List ℕ} {last next : ℕ} → Appended l (at + 3) content m last → Appended m at (tag ∷ bytesOf 2 (last - at - 3)) r next
+      → Appended l at (field tag content) r last
+  unfolding field
+  field-before {last = last} a b =
+      let told : last - at - 3 ≡ length content = omega (arith, a .end) in
+      rw (← told) (appended-before (omega (arith, length-bytesOf 2 (last - at - 3))) (omega (arith, body-fits)) a b)
+
 -- the label's text is as long as its parts and 13 bytes more: four heads and the Frerejacque number
 pub label-bytes : (number : ℕ) (rings smallest pairs : List ℕ) {n a b : ℕ} → a ≡ length (lines 2 rings) → b ≡ length (lines 1 smallest) → n ≤ length pairs
-    → 13 + (a + b) + 2 * n ≡ length (labelText number rings smallest (take n pairs))
+    → 13 + a + b + 2 * n ≡ length (labelText number rings smallest (take n pairs))
 unfolding labelText
 label-bytes number rings smallest pairs {n} {a} {b} e f h =
     let first : List ℕ = field frerejacqueTag (bytesOfAll 1 (number ∷ [])) in

@@ -1,23 +1,19 @@
--- How many sets of a list have each size, and the histogram made of that.
+-- The histogram that is made of how many sets have each size.
 -- Assumes nothing.
 use mathlib.Core.Path.{_≡_}
 use mathlib.Core.Bool.{true, false}
-use mathlib.Core.List.{List, [], _∷_, map}
-use Prim.Native.Nat.{ℕ, _+_, _<_}
+use mathlib.Core.List.{List, [], _∷_}
+use Prim.Native.Nat.{ℕ, _≤_}
 use lib.ListN.{getD}
 use lib.Dec.{eqb}
-use Rattle.sets.specs.Bits.{size}
 use Rattle.definitions.specs.Search.{gather}
-use Rattle.definitions.specs.Table.{maxBonds}
-use Rattle.definitions.specs.Label.{bytesOf, occurs}
+use Rattle.definitions.specs.Label.{bytesOf}
+use Rattle.rings.specs.Sizes.{allSizes}
 
--- the sizes that a set of bonds can have are those below this
-abbrev pub allSizes : ℕ
-allSizes = maxBonds + 1
-
--- the list says of each size how many of the sets have it
-abbrev pub Counts : List ℕ → List ℕ → Type 0
-Counts counts sets = (z : ℕ) → z < allSizes → getD counts z 0 ≡ occurs z (map size sets)
+-- no set has a size of top or above
+pub record NoneFrom (top : ℕ) (counts : List ℕ) : Type 0 where
+  pub within : top ≤ allSizes
+  pub none : (z : ℕ) → top ≤ z → getD counts z 0 ≡ 0
 
 -- one size, one byte, and in n bytes how many sets have it; nothing where none has
 unfoldable pub line : ℕ → ℕ → ℕ → List ℕ

@@ -1,15 +1,13 @@
 // Tagged fields: one byte tag, two bytes length, and the content.
-use super::histogram::SIZES;
-use super::histogram::histogram_bytes;
 use super::histogram::put_histogram;
 use super::write::put_numbers;
 use super::write::put_tagged;
-ghost use mathlib.Core.Path.{_≡_};
+use rings::SIZES;
 ghost use Prim.Native.Nat.{_+_, _≤_};
 ghost use lib.ListN.{length, take};
 ghost use Rattle.definitions.specs.Label.{bytesOfAll, field};
 ghost use Rattle.label.specs.Text.{Appended};
-ghost use Rattle.label.specs.Sizes.{lines};
+ghost use Rattle.label.specs.Sizes.{NoneFrom, lines};
 
 // The bytes of a field's length.
 const LENGTH: usize = 2;
@@ -33,18 +31,19 @@ pub(crate) fn put_number_field(
     put_numbers(width, numbers, n, out, next)
 }
 
-// A field of a histogram.
+// A field of a histogram. The content is written first, and then the head with the length that it came to.
 pub(crate) fn put_size_field(
     tag: u8,
     width: usize,
     counts: &[usize; SIZES],
+    top: usize,
     out: &mut [u8],
     at: usize,
 ) -> usize
-    requires { ⌜ (width ≤ 8) × (at + length (field tag (lines width (now counts))) ≤ length (now out)) ⌝ }
+    requires { ⌜ (width ≤ 8) × NoneFrom top (now counts) × (at + length (field tag (lines width (now counts))) ≤ length (now out)) ⌝ }
     ensures { λ r. ⌜ Appended (now (out .entry)) at (field tag (lines width (now (counts .entry)))) (now (out .exit)) r ⌝ }
 {
-    let bytes = histogram_bytes(width, counts);
-    let next = put_tagged(tag, LENGTH, bytes as u64, out, at);
-    put_histogram(width, counts, out, next)
+    let end = put_histogram(width, counts, top, out, at + HEAD);
+    put_tagged(tag, LENGTH, (end - at - HEAD) as u64, out, at);
+    end
 }

@@ -2,8 +2,8 @@
 use super::field::HEAD;
 use super::field::put_number_field;
 use super::field::put_size_field;
-use super::histogram::SIZES;
 use super::histogram::histogram_bytes;
+use rings::SIZES;
 use table::Answer;
 use table::ROOM;
 ghost use mathlib.Core.Path.{_≡_};
@@ -11,6 +11,7 @@ ghost use Prim.Native.Nat.{_≤_};
 ghost use lib.ListN.{length, take};
 ghost use Rattle.definitions.specs.Label.{field, bytesOfAll, sidecarTag, setBytes};
 ghost use Rattle.definitions.specs.Answer.{outcomeOf, over, outcome};
+ghost use Rattle.label.specs.Sizes.{NoneFrom};
 ghost use Rattle.label.specs.Text.{labelText};
 
 // The tag of the label's field with the Frerejacque number.
@@ -40,22 +41,36 @@ const PAIR: usize = 2;
 // The bytes of a set of bonds.
 const SET: usize = 8;
 
+// A size that no ring reaches, and one that no smallest ring reaches.
+pub(crate) struct Tops {
+    pub(crate) rings: usize,
+    pub(crate) smallest: usize,
+}
+
 // The four fields of the label, one after another.
 fn put_label(
     number: u64,
     rings: &[usize; SIZES],
     smallest: &[usize; SIZES],
+    tops: Tops,
     pairs: &[u64],
     n: usize,
     out: &mut [u8],
 )
-    requires { ⌜ (n ≤ length (now pairs)) × (length (labelText number (now rings) (now smallest) (take n (now pairs))) ≤ length (now out)) ⌝ }
+    requires { ⌜ NoneFrom (tops .rings) (now rings) × NoneFrom (tops .smallest) (now smallest) × (n ≤ length (now pairs)) × (length (labelText number (now rings) (now smallest) (take n (now pairs))) ≤ length (now out)) ⌝ }
     ensures { λ _. ⌜ now (out .exit) ≡ over (labelText number (now (rings .entry)) (now (smallest .entry)) (take n (now (pairs .entry)))) (now (out .entry)) ⌝ }
 {
     let first = [number];
     let after_first = put_number_field(FREREJACQUE, 1, &first, 1, out, 0);
-    let after_rings = put_size_field(RINGS, COUNT, rings, out, after_first);
-    let after_smallest = put_size_field(SMALLEST, SMALL_COUNT, smallest, out, after_rings);
+    let after_rings = put_size_field(RINGS, COUNT, rings, tops.rings, out, after_first);
+    let after_smallest = put_size_field(
+        SMALLEST,
+        SMALL_COUNT,
+        smallest,
+        tops.smallest,
+        out,
+        after_rings,
+    );
     put_number_field(ASSEMBLIES, PAIR, pairs, n, out, after_smallest);
 }
 
@@ -64,22 +79,24 @@ pub(crate) fn write_label(
     number: u64,
     rings: &[usize; SIZES],
     smallest: &[usize; SIZES],
+    tops: Tops,
     pairs: &[u64],
     n: usize,
     out: &mut [u8],
 ) -> Answer
-    requires { ⌜ n ≤ length (now pairs) ⌝ }
+    requires { ⌜ NoneFrom (tops .rings) (now rings) × NoneFrom (tops .smallest) (now smallest) × (n ≤ length (now pairs)) ⌝ }
     ensures { λ r. ⌜ outcomeOf (r .number) (r .count) (now (out .exit)) ≡ outcome 0 (labelText number (now (rings .entry)) (now (smallest .entry)) (take n (now (pairs .entry)))) (now (out .entry)) ⌝ }
 {
-    let sizes = histogram_bytes(COUNT, rings) + histogram_bytes(SMALL_COUNT, smallest);
-    let count = 4 * HEAD + 1 + sizes + PAIR * n;
+    let rings_bytes = histogram_bytes(COUNT, rings, tops.rings);
+    let smallest_bytes = histogram_bytes(SMALL_COUNT, smallest, tops.smallest);
+    let count = 4 * HEAD + 1 + rings_bytes + smallest_bytes + PAIR * n;
     if count > out.len() {
         return Answer {
             number: ROOM,
             count: 0,
         };
     }
-    put_label(number, rings, smallest, pairs, n, out);
+    put_label(number, rings, smallest, tops, pairs, n, out);
     Answer { number: 0, count }
 }
 

@@ -99,10 +99,11 @@ module _ {N : ℕ} {f : ℕ → List ℕ} {lent out : List ℕ} {at a : ℕ} (s 
   gathered-low = omega (arith, s .place, low, gathered-length)
 
   -- the next list has room after that place
-  pub gathered-room : a < N → at + length (f a) ≤ length out
-  gathered-room h =
+  pub gathered-room : {g : List ℕ} → a < N → g ≡ f a → at + length g ≤ length out
+  gathered-room h is =
       omega (
         arith,
+        ap length is,
         s .room,
         s .place,
         gathered-length,
@@ -113,25 +114,25 @@ module _ {N : ℕ} {f : ℕ → List ℕ} {lent out : List ℕ} {at a : ℕ} (s 
       )
 
   -- the part of the list from that place on is long enough for the next
-  pub gathered-part : a < N → length (f a) ≤ length (take (length out - at) (drop at out))
-  gathered-part h =
+  pub gathered-part : {g : List ℕ} → a < N → g ≡ f a → length g ≤ length (take (length out - at) (drop at out))
+  gathered-part h is =
       let whole : length (take (length out - at) (drop at out)) ≡ length out - at
       = length-take-le (length out - at) (drop at out) (omega (arith, length-drop at out)) in
-      omega (arith, whole, gathered-room h)
+      omega (arith, whole, gathered-room h is)
 
   -- one list more
-  pub gathered-more : {r : ℕ} {v : List ℕ} → a < N → r ≡ length (f a) → v ≡ over (reduced (f a)) (take (length out - at) (drop at out))
+  pub gathered-more : {r : ℕ} {g v : List ℕ} → a < N → g ≡ f a → r ≡ length g → v ≡ over (reduced g) (take (length out - at) (drop at out))
       → Gathered N f lent (take at out ++ (v ++ drop (length out - at) (drop at out))) (at + r) (a + 1)
   unfolding over
-  gathered-more {r} {v} h count e =
+  gathered-more {r} {g} {v} h is count e =
       let done = gather a (λ b. reduced (f b)) in
       let step = gather-step a (λ b. reduced (f b)) in
       record {
         within = omega arith;
         room = s .room;
-        place = omega (arith, s .place, count, reduced-length (f a), ap length step ∙ length-append done (reduced (f a)));
+        place = omega (arith, s .place, count, ap length is, reduced-length (f a), ap length step ∙ length-append done (reduced (f a)));
         list =
-            rw (e, s .place, s .list)
+            rw (e, is, s .place, s .list)
             (seam done (drop (length done) lent) (reduced (f a)) ∙ over-then done (reduced (f a)) lent ∙ ap (λ (g : List ℕ). over g lent) (sym step));
       }
 

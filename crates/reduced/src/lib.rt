@@ -18,7 +18,6 @@ pub fn reduced_basis(atoms: u64, bonds: &[u8], out: &mut [u64]) -> Answer
         return Answer { number, count: 0 };
     }
     let basis = basis::basis_of(atoms, bonds);
-    let rings = basis.rings;
     let count = basis.count;
     if count > out.len() {
         return Answer {
@@ -27,7 +26,6 @@ pub fn reduced_basis(atoms: u64, bonds: &[u8], out: &mut [u64]) -> Answer
         };
     }
     let assemblies = basis::assemblies_of(basis);
-    let members = assemblies.members;
-    reduce_all(rings, members, assemblies.count, out);
+    reduce_all(&basis.rings, &assemblies.members, assemblies.count, out);
     Answer { number: 0, count }
 }

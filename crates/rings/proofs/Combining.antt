@@ -1,40 +1,38 @@
--- The group of a basis ring: it is made of the old sets one by one, and each of its sums is tested against all of it. A sum with an old
--- set that shares no bond with the basis ring is split by the basis ring, which is the group's first set. Assumes nothing.
-use mathlib.Core.Path.{_≡_, refl, sym, ap, ap₂, subst, _∙_}
-use mathlib.Core.Bool.{Bool, true, false, _&&_, not, xor}
-use mathlib.Core.List.{List, [], _∷_, _++_, append-assoc, append-nil, map-append}
-use Prim.Native.Nat.{ℕ, suc, _+_, _-_, _<_, _≤_}
+-- The group of a basis ring: it is made of the old sets one by one, and each of its sums is tested against the rings found before it.
+-- Assumes nothing.
+use mathlib.Core.Path.{_≡_, refl, sym, ap, subst, _∙_}
+use mathlib.Core.Logic.{_↔_, ⊎-elim}
+use mathlib.Core.Bool.{Bool, true, false, not}
+use mathlib.Core.List.{List, [], _∷_, _++_, append-assoc, append-nil, map-append, List·Memᴰ as In, List·Memᴰ·not-nil as not-in-nil}
+use Prim.Native.Nat.{ℕ, suc, _+_, _<_, _≤_}
 use native.Mathlib.Numerals.{add-one}
-use native.Mathlib.Nat.{le-antisymm, sub-self}
+use native.Mathlib.Nat.{le-antisymm}
 use native.Mathlib.Omega.{arith}
-use lib.ListN.{length, take, getD, set, length-set, length-map, List·getD-append}
-use lib.Seq.{take-suc, take-suc-set, getD-take, getD-append-add, length-take-le}
-use lib.Bits.{bitXor, xor-self, xor-zero-r}
-use lib.Dec.{eqb}
-use Rattle.sets.specs.Bits.{has, sub, meet}
-use Rattle.sets.proofs.Laws.{has-xor, has-and, has-zero}
-use Rattle.sets.proofs.Members.{apart}
-use Rattle.sets.proofs.Size.{sub-test}
-use Rattle.definitions.specs.Search.{every}
-use borrow.Author.Tests.{eqb-false, ne-eqb}
-use Rattle.definitions.proofs.Tests.{not-passed, clashes, and-both, both-and, every-ext, every-more, every-broken, every-end}
-use Rattle.spans.proofs.Spans.{xor-cancel}
-use Rattle.definitions.proofs.Lists.{getD-map}
-use Rattle.rings.specs.Gibbs.{group, splits?, least?, sumsHeld, Doubled, Grouped}
+use lib.ListN.{length, take, getD, set, length-set, List·getD-append}
+use lib.Seq.{take-suc, take-suc-set, getD-take, length-take-le}
+use lib.Bits.{bitXor}
+use borrow.Author.Tests.{not-true}
+use Rattle.sets.specs.Bits.{Sub, sub}
+use Rattle.sets.proofs.Size.{sub-test, test-sub}
+use Rattle.definitions.proofs.Tests.{not-passed, clashes, every-at, every-of}
+use Rattle.definitions.proofs.Lists.{getD-in, in-getD, in-snoc}
+use Rattle.rings.specs.Found.{between}
+use Rattle.rings.specs.Gibbs.{group, clear?, Doubled}
+use Rattle.rings.proofs.Appending.{between-none, between-one, between-split, between-in}
 
 -- ---- the group is made: the old sets below place j are summed with the ring
 
 -- the old sets, followed by the sums of the first j of them
 pub record Doubling (start : List ℕ) (half ring : ℕ) (sums : List ℕ) (j : ℕ) : Type 0 where
   pub within : j ≤ half
-  pub few : half + half ≤ sumsHeld
-  pub lent : length start ≡ sumsHeld
-  pub long : length sums ≡ sumsHeld
+  pub few : half + half ≤ length start
+  pub long : length sums ≡ length start
   pub list : take (half + j) sums ≡ take half start ++ group ring (take j start)
 
 -- before the first turn
-pub doubling-none : (start : List ℕ) (half ring : ℕ) → length start ≡ sumsHeld → half + half ≤ sumsHeld → Doubling start half ring start 0
-doubling-none start half ring l f = record { within = omega arith; few = f; lent = l; long = l; list = ap (λ k. take k start) {x = half + 0} {y = half} (omega arith) ∙ sym (append-nil (take half start)) }
+pub doubling-none : (start : List ℕ) (half ring : ℕ) → half + half ≤ length start → Doubling start half ring start 0
+doubling-none start half ring f =
+    record { within = omega arith; few = f; long = refl; list = ap (λ k. take k start) {x = half + 0} {y = half} (omega arith) ∙ sym (append-nil (take half start)) }
 
 module _ {start : List ℕ} {half ring : ℕ} {sums : List ℕ} {j : ℕ} (s : Doubling start half ring sums j) where
   -- an old set is where it was
@@ -42,7 +40,7 @@ module _ {start : List ℕ} {half ring : ℕ} {sums : List ℕ} {j : ℕ} (s : D
   old-kept h =
       sym (getD-take (half + j) sums j 0 (omega arith))
       ∙ ap (λ l. getD l j 0) (s .list)
-      ∙ List·getD-append (take half start) (group ring (take j start)) 0 j (omega (arith, length-take-le half start (omega (arith, s .lent, s .few))))
+      ∙ List·getD-append (take half start) (group ring (take j start)) 0 j (omega (arith, length-take-le half start (omega (arith, s .few))))
       ∙ getD-take half start j 0 h
 
   -- one turn
@@ -50,7 +48,6 @@ module _ {start : List ℕ} {half ring : ℕ} {sums : List ℕ} {j : ℕ} (s : D
   doubling-more {w} {x} h e q = record {
     within = omega arith;
     few = s .few;
-    lent = s .lent;
     long = length-set sums (half + j) x ∙ s .long;
     list =
         ap (λ k. take k (set sums (half + j) x)) {x = half + (j + 1)} {y = suc (half + j)} (omega arith)
@@ -64,112 +61,66 @@ module _ {start : List ℕ} {half ring : ℕ} {sums : List ℕ} {j : ℕ} (s : D
       next =
           ap (λ y. group ring (take j start) ++ y ∷ []) (q ∙ ap (bitXor ring) (e ∙ old-kept h))
           ∙ sym (map-append (bitXor ring) (take j start) (getD start j 0 ∷ []))
-          ∙ ap (group ring) (sym (take-suc start j 0 (omega (arith, s .lent, s .few))) ∙ ap (λ k. take k start) (sym (add-one j)))
+          ∙ ap (group ring) (sym (take-suc start j 0 (omega (arith, s .few))) ∙ ap (λ k. take k start) (sym (add-one j)))
 
   -- after the last turn
   pub doubling-all : half ≤ j → Doubled start half ring sums
   doubling-all h = record { long = s .long; list = subst (λ k. take (half + k) sums ≡ take half start ++ group ring (take k start)) (le-antisymm (s .within) h) (s .list) }
 
--- ---- a sum is tested against its group
+-- ---- a sum is tested against the rings found
 
--- a test whose negation passes fails
-not-true : (b : Bool) → not b ≡ true → b ≡ false
-not-true true h = sym h
-not-true false h = refl
+-- the test of a set passes where no set of the list lies inside it
+pub clear-test : (found : List ℕ) (s : ℕ) → (clear? found s ≡ true) ↔ ((t : ℕ) → In t found → Sub t s → ⊥)
+unfolding clear?
+clear-test found s = (
+  λ h t i inside.
+      let (j, l, e) = in-getD 0 i in
+      clashes (sub-test t s inside) (rw e at (not-true (sub (getD found j 0) s) (every-at (length found) (λ j. not (sub (getD found j 0) s)) h j l))),
+  λ h. every-of (length found) (λ j. not (sub (getD found j 0) s)) (λ j l.
+      ap not (not-passed (sub (getD found j 0) s) (λ u. h (getD found j 0) (getD-in found j 0 l) (test-sub _ s u)))),
+)
 
--- the sets from place half up to place j do not split s
-pub record Unsplit (sums : List ℕ) (half s j : ℕ) : Type 0 where
-  pub from : half ≤ j
-  pub within : j ≤ half + half
-  pub none : every (j - half) (λ k. not (splits? (getD sums (half + k) 0) s)) ≡ true
+-- none of the rings from one place up to place i lies inside s
+pub record Tested (found : List ℕ) (from to s i : ℕ) : Type 0 where
+  pub few : to ≤ length found
+  pub after : from ≤ i
+  pub within : i ≤ to
+  pub none : clear? (between from i found) s ≡ true
 
 -- none is looked at yet
-pub unsplit-none : (sums : List ℕ) (half s : ℕ) → Unsplit sums half s half
-unfolding every
-unsplit-none sums half s = record { from = omega arith; within = omega arith; none = rw (sub-self half) refl }
+pub tested-none : {found : List ℕ} {from to : ℕ} (s : ℕ) → (from ≤ to) × (to ≤ length found) → Tested found from to s from
+tested-none {found} {from} s f = record {
+  few = f .1;
+  after = omega arith;
+  within = f .0;
+  none = clear-test (between from from found) s .1 (λ t i. absurd (not-in-nil (rw (between-none from found) at i)));
+}
 
-module _ {sums : List ℕ} {half s j : ℕ} (u : Unsplit sums half s j) where
-  -- what the test of the next set says
-  tested : {w : ℕ} {r b : Bool} → w ≡ getD sums j 0 → r ≡ splits? w s → r ≡ b → not (splits? (getD sums (half + (j - half)) 0) s) ≡ not b
-  tested e t q = ap not (ap (λ k. splits? (getD sums k 0) s) {x = half + (j - half)} {y = j} (omega (arith, u .from)) ∙ ap (λ v. splits? v s) (sym e) ∙ sym t ∙ q)
-
-  -- one turn: the next set does not split s
-  pub unsplit-more : {w : ℕ} {r : Bool} → j < half + half → w ≡ getD sums j 0 → r ≡ splits? w s → r ≡ false → Unsplit sums half s (j + 1)
-  unsplit-more h e t q = record {
-    from = omega (arith, u .from);
+module _ {found : List ℕ} {from to s i : ℕ} (u : Tested found from to s i) where
+  -- one turn: the next ring does not lie inside s
+  pub tested-more : {w : ℕ} {r : Bool} → i < to → w ≡ getD found i 0 → r ≡ sub w s → r ≡ false → Tested found from to s (i + 1)
+  tested-more {w} h e t q = record {
+    few = u .few;
+    after = omega (arith, u .after);
     within = omega arith;
     none =
-        ap (λ i. every i (λ k. not (splits? (getD sums (half + k) 0) s))) {x = j + 1 - half} {y = j - half + 1} (omega (arith, u .from))
-        ∙ every-more (λ k. not (splits? (getD sums (half + k) 0) s)) (u .none) refl (tested e t q);
+        clear-test (between from (i + 1) found) s .1
+        (λ x m. ⊎-elim (clear-test (between from i found) s .0 (u .none) x)
+        (λ z inside. clashes (sub-test x s inside) (ap (λ y. sub y s) (z ∙ sym e) ∙ sym t ∙ q))
+        (in-snoc (between from i found) (rw (sym next) at m)));
   }
-
-module _ {sums : List ℕ} {half ring : ℕ} (g : Grouped sums half ring) where
-  -- the first half are there
-  held : length (take half sums) ≡ half
-  held = length-take-le half sums (omega (arith, g .long, g .few))
-
-  -- so many are there
-  group-length : length (group ring (take half sums)) ≡ half
-  group-length = length-map (take half sums) (bitXor ring) ∙ held
-
-  -- the group stands after the old sets
-  group-at : (j : ℕ) → j < half → getD sums (half + j) 0 ≡ getD (group ring (take half sums)) j 0
-  group-at j h =
-      sym (getD-take (half + half) sums (half + j) 0 (omega arith))
-      ∙ ap (λ l. getD l (half + j) 0) (g .list)
-      ∙ ap (λ k. getD (take half sums ++ group ring (take half sums)) (k + j) 0) (sym held)
-      ∙ getD-append-add (take half sums) (group ring (take half sums)) j 0
-
-  -- its first set is the ring
-  group-first : getD sums (half + 0) 0 ≡ ring
-  group-first =
-      group-at 0 (g .some)
-      ∙ getD-map (bitXor ring) (take half sums) 0 0 0 (omega (arith, held, g .some))
-      ∙ ap (bitXor ring) (getD-take half sums 0 0 (g .some) ∙ g .none)
-      ∙ xor-zero-r ring
-
-  -- the test of a sum goes over the array
-  least-at : (s : ℕ) → least? (group ring (take half sums)) s ≡ every half (λ k. not (splits? (getD sums (half + k) 0) s))
-  unfolding least?
-  least-at s =
-      ap (λ n. every n (λ k. not (splits? (getD (group ring (take half sums)) k 0) s))) group-length
-      ∙ every-ext half _ _ (λ k h. ap (λ t. not (splits? t s)) (sym (group-at k h)))
-
-  -- the ring splits its sum with an old set that is not empty and shares no bond with it
-  pub crossing-none : (old : ℕ) {r : Bool} → r ≡ meet old ring → not (eqb old 0) && not r ≡ true → false ≡ least? (group ring (take half sums)) (bitXor ring old)
-  unfolding xor
-  crossing-none old {r} m t =
-      every-broken (λ k. not (splits? (getD sums (half + k) 0) (bitXor ring old))) (g .some) refl
-      (ap (λ w. not (splits? w (bitXor ring old))) group-first ∙ ap not (both-and inside other))
-      ∙ sym (least-at (bitXor ring old))
     where
-      tests : (not (eqb old 0) ≡ true) × (not r ≡ true)
-      tests = and-both (not (eqb old 0)) (not r) t
+      next : between from i found ++ getD found i 0 ∷ [] ≡ between from (i + 1) found
+      next =
+          ap (λ l. between from i found ++ l) (sym (between-one i found (omega (arith, u .few))))
+          ∙ between-split from i (i + 1) found (u .after) (omega arith) (omega (arith, u .few))
 
-      nothing : (k : ℕ) → has ring k ≡ true → has old k ≡ false
-      nothing k h =
-          not-passed (has old k)
-          (λ u. clashes (has-and old ring k ∙ both-and u h) (ap (λ x. has x k) (apart old ring (sym m ∙ not-true r (tests .1))) ∙ has-zero k))
+  -- a ring lies inside s
+  pub tested-broken : {w : ℕ} {r : Bool} → i < to → w ≡ getD found i 0 → r ≡ sub w s → r ≡ true → false ≡ clear? (between from to found) s
+  tested-broken h e t q =
+      sym (not-passed (clear? (between from to found) s) (λ c.
+      clear-test (between from to found) s .0 c (getD found i 0) (between-in from i to found (u .after) h (u .few)) (test-sub _ s (ap (λ y. sub y s) (sym e) ∙ sym t ∙ q))))
 
-      inside : sub ring (bitXor ring old) ≡ true
-      inside = sub-test ring (bitXor ring old) (λ k h. has-xor ring old k ∙ ap₂ xor h (nothing k h))
-
-      other : not (eqb ring (bitXor ring old)) ≡ true
-      other =
-          ap not (ne-eqb ring (bitXor ring old)
-          (λ e. eqb-false old 0 (not-true (eqb old 0) (tests .0)) (sym (xor-cancel ring old) ∙ ap (bitXor ring) (sym e) ∙ xor-self ring)))
-
-  module _ {s j x : ℕ} (u : Unsplit sums half s j) (is : s ≡ x) where
-    -- a set of the group splits s
-    pub unsplit-broken : {w : ℕ} {r : Bool} → j < half + half → w ≡ getD sums j 0 → r ≡ splits? w s → r ≡ true → false ≡ least? (group ring (take half sums)) x
-    unsplit-broken h e t q =
-        every-broken (λ k. not (splits? (getD sums (half + k) 0) s)) {k = j - half} (omega (arith, u .from)) refl (tested u e t q)
-        ∙ sym (least-at s)
-        ∙ ap (least? (group ring (take half sums))) is
-
-    -- none does
-    pub unsplit-all : half + half ≤ j → true ≡ least? (group ring (take half sums)) x
-    unsplit-all h =
-        every-end (λ k. not (splits? (getD sums (half + k) 0) s)) {k = j - half} (omega (arith, u .within)) (omega (arith, u .from)) (u .none)
-        ∙ sym (least-at s)
-        ∙ ap (least? (group ring (take half sums))) is
+  -- none does
+  pub tested-all : to ≤ i → true ≡ clear? (between from to found) s
+  tested-all h = subst (λ k. true ≡ clear? (between from k found) s) (le-antisymm (u .within) h) (sym (u .none))

@@ -1,9 +1,8 @@
 -- What the combination finds in all assemblies is exactly the rings, each once. The sets of a group are the sums of a basis ring and
--- some before it; such a sum is a ring where no other of the group is inside it, and every ring is in one group of one assembly.
+-- some before it; such a sum is a ring where no ring of a group before is inside it, and every ring is in one group of one assembly.
 -- Assumes nothing.
 use mathlib.Core.Path.{_≡_, refl, sym, ap, ap₂, subst⁻¹, _∙_}
 use mathlib.Core.Logic.{_↔_, _⊎_, inl, inr, ⊎-elim}
-use mathlib.Core.Bool.{true, false, _&&_, not}
 use mathlib.Core.List.{List, [], _∷_, _++_, Memᴰ·append-left, Memᴰ·append-right, Memᴰ·cast, Memᴰ·map, Memᴰ·of-map, Sublistᴰ, Sublistᴰ·slnil, Sublistᴰ·cons, Sublistᴰ·cons-cons}
 use mathlib.Core.List.{List·Memᴰ as In, List·Memᴰ·head as here, List·Memᴰ·tail as there, List·Memᴰ·not-nil as not-in-nil, List·Memᴰ·append-cases as in-append, List·Memᴰ·eq-of-singleton as eq-of-singleton}
 use Prim.Native.Nat.{ℕ, zero, suc, _<_, _≤_}
@@ -12,31 +11,26 @@ use native.Mathlib.Omega.{arith}
 use lib.ListN.{length, take, getD}
 use lib.Seq.{take-suc, take-length}
 use lib.Bits.{bitXor, xor-comm, xor-self, xor-zero-l, xor-zero-r}
-use lib.Dec.{eqb}
-use borrow.Author.Tests.{eqb-true, eq-eqb}
-use Rattle.sets.specs.Bits.{Sub, sub}
 use Rattle.sets.proofs.Laws.{xor-assoc}
-use Rattle.sets.proofs.Size.{sub-test, test-sub, xor-zero}
+use Rattle.sets.proofs.Size.{xor-zero}
 use Rattle.definitions.specs.Search.{gather, sort}
 use Rattle.definitions.specs.Table.{Table}
 use Rattle.definitions.specs.Ring.{Ring}
 use Rattle.definitions.specs.Basis.{basisRings}
-use Rattle.definitions.specs.Assembly.{assemblyCount, ringsIn, tangled?}
+use Rattle.definitions.specs.Assembly.{assemblyCount, ringsIn}
 use Rattle.definitions.specs.AllRings.{before, allRings}
 use Rattle.definitions.specs.Smallest.{SumOf}
-use Rattle.definitions.proofs.Tests.{by, clashes, both-and, every-at, every-of}
-use Rattle.definitions.proofs.Lists.{NoRepeats, fresh-none, fresh-more, fresh-map, getD-in, in-getD, keep-in, gather-in, fresh-keep}
-use Rattle.definitions.proofs.Sorting.{before-order, sort-in, length-sort, sort-sorted}
+use Rattle.definitions.proofs.Lists.{NoRepeats, fresh-none, fresh-more, fresh-map, keep-in, gather-in, fresh-keep}
+use Rattle.definitions.proofs.Sorting.{before-order, sort-in, sort-sorted}
 use Rattle.definitions.proofs.Refusals.{Valid}
 use Rattle.definitions.proofs.Rings.{all-rings-unique}
 use Rattle.spans.proofs.Spans.{Span, none, skip, add, Indep, empty, more, xor-cancel, xor-undo, xor-left-comm, xor-cross, span-zero, span-eq}
 use Rattle.spans.proofs.Choice.{sum→span, span→sum, indep-sub, independent-iff-indep}
 use Rattle.cycles.proofs.Assemblies.{assembly-independent}
-use Rattle.cycles.proofs.Groups.{InGroup, ring-by-group, ring-in-group, group-unique}
-use Rattle.cycles.proofs.Bound.{all-rings-few}
-use Rattle.rings.specs.Found.{most}
-use Rattle.rings.specs.Gibbs.{group, splits?, least?, leastOf, sumsFrom, leastFrom, sumsOf, combined, allCombined}
-use Rattle.rings.proofs.Turns.{least-snoc}
+use Rattle.cycles.proofs.Groups.{InGroup, ring-by-earlier, ring-in-group, group-unique}
+use Rattle.rings.specs.Gibbs.{group, clear?, ringsAmong, sumsFrom, ringsFrom, sumsOf, combined, allCombined}
+use Rattle.rings.proofs.Combining.{clear-test}
+use Rattle.rings.proofs.Turns.{rings-snoc}
 
 -- ---- lists without repeats
 
@@ -124,14 +118,18 @@ sums-fresh olds (more {v = r} {vs = l} n d) f sep = sums-fresh (olds ++ group r 
 abbrev groupOf : List ℕ → ℕ → List ℕ
 groupOf l i = group (getD l i 0) (sumsOf (take i l))
 
+-- what is found in it
+abbrev foundIn : List ℕ → ℕ → List ℕ
+foundIn l i = ringsAmong (combined (take i l)) (groupOf l i)
+
 -- what is found is found group by group
-combined-groups : (l : List ℕ) (k : ℕ) → k ≤ length l → combined (take k l) ≡ gather k (λ i. leastOf (groupOf l i) (groupOf l i))
-unfolding gather leastFrom
+combined-groups : (l : List ℕ) (k : ℕ) → k ≤ length l → combined (take k l) ≡ gather k (foundIn l)
+unfolding gather ringsFrom
 combined-groups l zero h = refl
 combined-groups l (suc k) h =
     ap combined (take-suc l k 0 h)
-    ∙ least-snoc (0 ∷ []) (take k l) (getD l k 0)
-    ∙ ap (λ m. m ++ leastOf (groupOf l k) (groupOf l k)) (combined-groups l k (omega arith))
+    ∙ rings-snoc (0 ∷ []) [] (take k l) (getD l k 0)
+    ∙ ap (λ m. m ++ foundIn l k) (combined-groups l k (omega arith))
 
 -- the sets of the group are the sums of that basis ring and some before it
 group-in : (l : List ℕ) (i s : ℕ) → In s (groupOf l i) ↔ SumOf (take i l) (bitXor s (getD l i 0))
@@ -142,26 +140,6 @@ group-in l i s = (
   where
     r : ℕ
     r = getD l i 0
-
--- t does not split s where it is not inside it or all of it
-unsplit-test : (t s : ℕ) → (not (splits? t s) ≡ true) ↔ (Sub t s → t ≡ s)
-unsplit-test t s = (
-  λ h inside.
-      by (eqb t s) (eqb-true t s)
-      (λ e. clashes h (ap not (both-and (sub-test t s inside) (ap not e)))),
-  λ h.
-      by (sub t s)
-      (λ e. ap not (ap₂ _&&_ e (ap not (eq-eqb t s (h (test-sub t s e))))))
-      (λ e. ap (λ b. not (b && not (eqb t s))) e),
-)
-
--- a set is not split in a group where no other of the group is inside it
-least-test : (g : List ℕ) (s : ℕ) → (least? g s ≡ true) ↔ ((t : ℕ) → In t g → Sub t s → t ≡ s)
-unfolding least?
-least-test g s = (
-  λ h t i. let (j, l, e) = in-getD 0 i in unsplit-test t s .0 (rw e at (every-at (length g) (λ j. not (splits? (getD g j 0) s)) h j l)),
-  λ h. every-of (length g) (λ j. not (splits? (getD g j 0) s)) (λ j l. unsplit-test (getD g j 0) s .1 (h (getD g j 0) (getD-in g j 0 l))),
-)
 
 -- ---- the assemblies of a table
 
@@ -177,44 +155,55 @@ module _ {M : Table} (valid : Valid M) where
   abbrev rings : ℕ → List ℕ
   rings a = ringsIn (basisRings M) a
 
-  -- the rings of a group are its sets that are not split
-  group-rings : (a i s : ℕ) → i < length (rings a) → In s (leastOf (groupOf (rings a) i) (groupOf (rings a) i)) ↔ (InGroup M a i s × Ring M s)
-  group-rings a i s h = (
-    λ m. let (j, t) = keep-in (least? g) s g .0 m in
-        let of = grouped s j in
-        (of, ring-by-group valid of .1 (λ u k. least-test g s .0 t u (group-in (rings a) i u .1 (k .sum)))),
-    λ m. let (k, r) = m in
-        keep-in (least? g) s g .1 (group-in (rings a) i s .1 (k .sum), least-test g s .1 (λ u j. ring-by-group valid k .0 r u (grouped u j))),
-  )
-    where
-      g : List ℕ
-      g = groupOf (rings a) i
+  -- what is found before the i-th group is what is found in one before
+  found-before : (a i u : ℕ) → i < length (rings a) → In u (combined (take i (rings a))) ↔ ((j : ℕ) × (j < i) × In u (foundIn (rings a) j))
+  found-before a i u h = rw (combined-groups (rings a) i (omega arith)) (gather-in i (foundIn (rings a)) u)
 
-      grouped : (u : ℕ) → In u (groupOf (rings a) i) → InGroup M a i u
-      grouped u j = record { place = h; sum = group-in (rings a) i u .0 j }
+  -- what is found in a group are its rings, by those of the groups before: a sum is kept where none of them is inside it
+  group-rings-upto : (n a i s : ℕ) → i < n → i < length (rings a) → In s (foundIn (rings a) i) ↔ (InGroup M a i s × Ring M s)
+  group-rings-upto zero a i s b h = absurd (omega arith)
+  group-rings-upto (suc n) a i s b h =
+      let olds = combined (take i (rings a)) in
+      let g = groupOf (rings a) i in (
+        λ m. let (j, t) = keep-in (clear? olds) s g .0 m in
+            let of : InGroup M a i s = record { place = h; sum = group-in (rings a) i s .0 j } in (
+              of,
+              ring-by-earlier valid of .1 (λ j u l k r part.
+                  clear-test olds s .0 t u (found-before a i u h .1 (j, l, group-rings-upto n a j u (omega arith) (k .place) .1 (k, r))) part),
+            ),
+        λ m. let (of, r) = m in
+            keep-in (clear? olds) s g .1 (
+              group-in (rings a) i s .1 (of .sum),
+              clear-test olds s .1 (λ u m part.
+                  let (j, l, f) = found-before a i u h .0 m in
+                  let (k, q) = group-rings-upto n a j u (omega arith) (omega arith) .0 f in
+                  ring-by-earlier valid of .0 r j u l k q part),
+            ),
+      )
+
+  -- so what is found in a group are its rings
+  group-rings : (a i s : ℕ) → i < length (rings a) → In s (foundIn (rings a) i) ↔ (InGroup M a i s × Ring M s)
+  group-rings a i s h = group-rings-upto (suc i) a i s (omega arith) h
 
   -- what is found in an assembly is found in its groups
-  by-groups : (a : ℕ) → combined (rings a) ≡ gather (length (rings a)) (λ i. leastOf (groupOf (rings a) i) (groupOf (rings a) i))
+  by-groups : (a : ℕ) → combined (rings a) ≡ gather (length (rings a)) (foundIn (rings a))
   by-groups a = ap combined (sym (take-length (rings a))) ∙ combined-groups (rings a) (length (rings a)) (le-refl (length (rings a)))
 
   -- so they are the rings of its groups
   combined-in : (a s : ℕ) → In s (combined (rings a)) ↔ (((i : ℕ) × InGroup M a i s) × Ring M s)
   combined-in a s = (
-    λ m. let (i, h, j) = gather-in (length (rings a)) found s .0 (rw (by-groups a) at m) in
+    λ m. let (i, h, j) = gather-in (length (rings a)) (foundIn (rings a)) s .0 (rw (by-groups a) at m) in
         let (k, r) = group-rings a i s h .0 j in
         ((i, k), r),
     λ m. let ((i, k), r) = m in
-        rw (by-groups a) (gather-in (length (rings a)) found s .1 (i, k .place, group-rings a i s (k .place) .1 (k, r))),
+        rw (by-groups a) (gather-in (length (rings a)) (foundIn (rings a)) s .1 (i, k .place, group-rings a i s (k .place) .1 (k, r))),
   )
-    where
-      found : ℕ → List ℕ
-      found i = leastOf (groupOf (rings a) i) (groupOf (rings a) i)
 
   -- each once: the sums of a group are different, and no set is in two groups
   combined-fresh : (a : ℕ) → NoRepeats (combined (rings a))
   combined-fresh a =
       subst⁻¹ NoRepeats (by-groups a)
-      (fresh-gather (length (rings a)) (λ i. leastOf (groupOf (rings a) i) (groupOf (rings a) i)) (λ i h. fresh-keep (least? (groupOf (rings a) i)) (different i))
+      (fresh-gather (length (rings a)) (foundIn (rings a)) (λ i h. fresh-keep (clear? (combined (take i (rings a)))) (different i))
       (λ i j s l h p q.
       let (k, _) = group-rings a i s (omega arith) .0 p in
       let (m, _) = group-rings a j s h .0 q in
@@ -255,7 +244,3 @@ module _ {M : Table} (valid : Valid M) where
   all-combined =
       all-rings-unique M (sort before (allCombined (basisRings M))) (sort-sorted before-order all-combined-fresh)
       (λ s. (λ i. all-combined-in s .0 (sort-in before (allCombined (basisRings M)) s .0 i), λ r. sort-in before (allCombined (basisRings M)) s .1 (all-combined-in s .1 r)))
-
-  -- and there is room for them where no assembly is tangled
-  pub all-combined-few : tangled? M ≡ false → length (allCombined (basisRings M)) ≤ most
-  all-combined-few t = omega (arith, length-sort before (allCombined (basisRings M)), ap length all-combined, all-rings-few valid t)

@@ -1,15 +1,21 @@
 -- The laws of this crate's steps.
---     Placing      a ring put at its place in a list that is in order
---     Gathering    rings put among those found, some after others
---     Combining    the group of a basis ring: how it is made, and which of its sums are not split
+--     Appending    rings that follow those found
+--     Combining    the group of a basis ring: how it is made, and inside which of its sums no ring lies that is found already
 --     Turns        the basis rings of an assembly in turn, each with its group
 --     Exactly      what the combination finds in all assemblies is exactly the rings
+--     Sizing       how many sets have each size, and where the part of each size starts
+--     Placing      a ring put at its place among those of its size
+--     Ordering     a list ordered by size, part by part
+--     Ranking      the rings put one after another into the parts of their sizes
 --     Selecting    the smallest basis by elimination
 --     Perceiving   what is worked out of a table: the assemblies one after another, and each answer
-pub mod Placing
-pub mod Gathering
+pub mod Appending
 pub mod Combining
 pub mod Turns
 pub mod Exactly
+pub mod Sizing
+pub mod Placing
+pub mod Ordering
+pub mod Ranking
 pub mod Selecting
 pub mod Perceiving

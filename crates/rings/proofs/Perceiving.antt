@@ -1,68 +1,49 @@
--- What is worked out of a table: the sets of an assembly's basis rings are those that a Basis and Assemblies hold, the rings of all
--- assemblies are put one assembly after another among those found, and in order they are all rings. Assumes nothing.
+-- What is worked out of a table. Its assemblies have so many sums, and no more rings are found in them. Found one assembly after another
+-- and put in order, they are all rings. Assumes nothing.
 use mathlib.Core.Path.{_≡_, refl, sym, ap, ap₂, subst, subst⁻¹, _∙_}
-use mathlib.Core.Bool.{Bool, true, false, _&&_, cond}
-use mathlib.Core.List.{List, [], _++_, append-nil}
-use Prim.Native.Nat.{ℕ, _+_, _<_, _≤_}
-use native.Mathlib.Nat.{le-antisymm, le-refl}
+use mathlib.Core.Bool.{Bool, true, false, cond}
+use mathlib.Core.List.{List, [], List·Memᴰ as In}
+use Prim.Native.Nat.{ℕ, suc, _+_, _-_, _*_, _%_, _^_, _<_, _≤_}
+use native.Mathlib.Numerals.{add-one}
+use native.Mathlib.Nat.{le-antisymm, min-le-right}
 use native.Mathlib.Decide.{le-ind}
 use native.Mathlib.Omega.{arith}
-use lib.ListN.{replicate, length, take, drop, getD, length-append, take-append-drop}
-use lib.Seq.{take-append-seam, length-take-le}
-use lib.Dec.{eqb, ltb}
+use lib.ListN.{replicate, length, take, getD, length-take}
+use lib.Seq.{length-take-le}
+use lib.Pow.{pow-pos, pow-mono}
+use lib.Dec.{ltb}
 use borrow.Author.Tests.{lt-ltb, le-ltb, ltb-false}
-use Rattle.sets.specs.Bits.{has, size}
-use Rattle.sets.specs.Bond.{bits, room}
-use Rattle.sets.specs.Ring.{bits as ringBits}
-use Rattle.sets.specs.declared.bond.BondSet.{BondSet}
-use Rattle.definitions.specs.Search.{some?, setOf, gather, sort}
-use Rattle.definitions.specs.Table.{Table, refusal, TANGLED}
+use Rattle.sets.specs.Bits.{size}
+use Rattle.sets.specs.Ring.{room}
+use Rattle.sets.proofs.Machine.{one-shl}
+use Rattle.definitions.specs.Search.{some?, listed, gather, total, sort}
+use Rattle.definitions.specs.Table.{Table, maxBonds, refusal, TANGLED}
 use Rattle.definitions.specs.Basis.{basisRings}
-use Rattle.definitions.specs.Assembly.{assembliesOf, assemblyCount, ringsIn, maxAssembly, tangled?}
+use Rattle.definitions.specs.Assembly.{assemblyCount, ringsIn, maxAssembly, tangled?}
 use Rattle.definitions.specs.AllRings.{before, allRings}
 use Rattle.definitions.specs.Smallest.{taking, smallestBasis}
-use Rattle.definitions.specs.Answer.{over, refusalOfRings}
+use Rattle.definitions.specs.Answer.{Outcome, outcome, refusalOfRings}
 use Rattle.definitions.proofs.Tests.{none-at, some-ext, some-none, some-more, some-found, some-end}
-use Rattle.definitions.proofs.Lists.{has-setOf, listed-ext, gather-step, gather-zero, gather-ext}
-use Rattle.definitions.proofs.Sorting.{length-sort}
+use Rattle.definitions.proofs.Lists.{listed-ext, gather-step, gather-zero, gather-ext, length-gather}
+use Rattle.definitions.proofs.Sorting.{length-sort, sort-in}
 use Rattle.definitions.proofs.Refusals.{Valid, accepted, rings-kept, rings-free, rings-accepted}
 use Rattle.definitions.proofs.Rings.{all-rings-are}
-use Rattle.table.specs.Row.{none}
-use Rattle.basis.specs.Held.{ringsOf, Counted, BasisOf, noRings, membersOf, AssembliesOf}
+use Rattle.definitions.proofs.Linking.{rings-total}
+use Rattle.basis.specs.Held.{ringsOf, BasisOf, membersOf, picked, AssembliesOf}
 use Rattle.basis.specs.declared.basis.Basis.{Basis}
 use Rattle.basis.specs.declared.assembly.Assemblies.{Assemblies}
-use Rattle.basis.proofs.Collecting.{listed-gap}
 use Rattle.basis.proofs.Replacing.{getD-same}
-use Rattle.basis.proofs.Holding.{ring-at, members-size}
+use Rattle.basis.proofs.Holding.{members-size, picked-rings}
 use Rattle.cycles.proofs.BasisList.{even-sums}
-use Rattle.cycles.proofs.Bound.{all-rings-few}
-use Rattle.rings.specs.Found.{most, Open, Gathered}
-use Rattle.rings.specs.Gibbs.{combined, allCombined, chosenOf}
+use Rattle.cycles.proofs.Bound.{total-last, total-share, sums-share}
+use Rattle.rings.specs.Found.{most, Room, Appended, Ordered}
+use Rattle.rings.specs.Gibbs.{combined, foundIn, allCombined}
 use Rattle.rings.specs.Elimination.{Choosable, Selected}
-use Rattle.rings.specs.Perceiving.{tangledOf, Combinable, Blank, Refused, Accepted, Perceives}
+use Rattle.rings.specs.Perceiving.{tangledOf, sumsIn, mostOf, Small, Combinable, Listable, Roomy, Blank, Refused, Accepted, Perceives}
 use Rattle.rings.specs.declared.perception.Perceived.{Perceived}
-use Rattle.rings.proofs.Gathering.{gathered-none, gathered-more, gathered-open}
-use Rattle.rings.proofs.Exactly.{all-combined, all-combined-few}
-
--- ---- the basis rings of an assembly
-
--- they stand at the places that its set names
-members-rings : {s : Assemblies} (b : Basis) → Counted b → length (ringsOf b) ≡ b .count → AssembliesOf (ringsOf b) s → (a : ℕ) → a < s .count
-    → chosenOf (b .rings) (membersOf s a) ≡ ringsIn (ringsOf b) a
-unfolding ringsIn
-members-rings {s} b few long h a l =
-    ap (chosenOf (b .rings)) (h .members a l)
-    ∙ listed-gap (has (setOf n p)) ring n room (omega (arith, long)) (λ k m j. has-setOf n p k ∙ ap (λ t. t && p k) (le-ltb k n m))
-    ∙ listed-ext n (has (setOf n p)) p ring (λ i. getD (ringsOf b) i 0) (λ k m. has-setOf n p k ∙ ap (λ t. t && p k) (lt-ltb k n m)) (λ k m t. ring-at b k (omega (arith, long)))
-  where
-    n : ℕ
-    n = length (ringsOf b)
-
-    p : ℕ → Bool
-    p i = eqb (getD (assembliesOf (ringsOf b)) i 0) a
-
-    ring : ℕ → ℕ
-    ring i = bits (getD (b .rings) i none)
+use Rattle.rings.proofs.Appending.{appended-none, appended-more}
+use Rattle.rings.proofs.Turns.{picked-few, combined-few}
+use Rattle.rings.proofs.Exactly.{all-combined}
 
 -- ---- too many of them
 
@@ -99,166 +80,285 @@ tangled-test {M} {b} {s} held h =
     ∙ ap (λ n. some? n (λ a. ltb maxAssembly (length (ringsIn (ringsOf b) a)))) (h .count)
     ∙ ap (λ rs. some? (assemblyCount rs) (λ a. ltb maxAssembly (length (ringsIn rs a)))) (held .rings)
 
--- ---- one assembly after another
+-- where the test fails, they are small
+pub untangled-small : {rs : List ℕ} {s : Assemblies} {t : Bool} → AssembliesOf rs s → t ≡ tangledOf s → t ≡ false → Small s
+untangled-small {s = s} h test q = record {
+  counted = h .counted;
+  small = λ a l. ltb-false maxAssembly (size (membersOf s a)) (none-at (s .count) (λ k. ltb maxAssembly (size (membersOf s k))) (sym test ∙ q) a l);
+}
 
--- what is gathered does not grow shorter
-pub gather-mono : (f : ℕ → List ℕ) (k n : ℕ) → k ≤ n → length (gather k f) ≤ length (gather n f)
-unfolding gather
-gather-mono f k n h =
-    le-ind (λ m. length (gather k f) ≤ length (gather m f)) (le-refl (length (gather k f))) (λ m (l : k ≤ m) ih. omega (arith, length-append (gather m f) (f m))) n h
+-- ---- how many sums the assemblies have
+
+-- the sums of assembly a that are not empty
+abbrev sumsAt : List ℕ → ℕ → ℕ
+sumsAt members a = 2 ^ size (getD members a 0) - 1
+
+-- no term is more than the total
+total-each : (n : ℕ) (g : ℕ → ℕ) (a : ℕ) → a < n → g a ≤ total (listed n (λ k. true) g)
+total-each n g a h =
+    le-ind (λ m. g a ≤ total (listed m (λ k. true) g)) (omega (arith, total-last a g)) (λ m (l : suc a ≤ m) ih. omega (arith, total-last m g)) n h
+
+-- n is what the assemblies below a have
+pub record Added (s : Assemblies) (n a : ℕ) : Type 0 where
+  pub within : a ≤ s .count
+  pub few : n ≤ (2 ^ maxAssembly - 1) * a
+  pub sum : n ≡ sumsIn (s .members) a
+
+-- before the first
+pub added-none : (s : Assemblies) → Added s 0 0
+unfolding listed total
+added-none s = record { within = omega arith; few = omega arith; sum = refl }
+
+module _ {s : Assemblies} {n a k : ℕ} (d : Added s n a) (small : Small s) (l : a < s .count) (is : k ≡ size (membersOf s a)) where
+  -- the next has not too many
+  pub added-few : k ≤ maxAssembly
+  added-few = omega (arith, is, small .small a l)
+
+  -- so 1 moved up by as many digits fits in a word
+  moved : (1 * 2 ^ k) % 2 ^ 64 ≡ 2 ^ k
+  moved = one-shl 64 k (omega (arith, added-few))
+
+  -- one of its sums is empty
+  pub added-empty : 1 ≤ (1 * 2 ^ k) % 2 ^ 64
+  added-empty = omega (arith, moved, pow-pos k)
+
+  -- so many are the others, and the number is no more than a word holds
+  pub added-fits : n + ((1 * 2 ^ k) % 2 ^ 64 - 1) < 2 ^ 64
+  added-fits = omega (arith, moved, pow-mono added-few, d .few, d .within, small .counted)
+
+  -- they are added
+  pub added-more : Added s (n + ((1 * 2 ^ k) % 2 ^ 64 - 1)) (a + 1)
+  added-more = record {
+    within = omega arith;
+    few = omega (arith, moved, d .few, pow-mono added-few);
+    sum = rw (add-one, moved, is) (omega (arith, d .sum, total-last a (sumsAt (s .members))));
+  }
+
+-- all of them
+pub added-all : {s : Assemblies} {n a : ℕ} → Added s n a → s .count ≤ a → n ≡ mostOf s
+added-all {s} d h = d .sum ∙ ap (sumsIn (s .members)) (le-antisymm (d .within) h)
+
+-- ---- what the combination finds in them
 
 -- what is found in assembly a
-abbrev foundIn : List BondSet → Assemblies → ℕ → List ℕ
-foundIn rings s a = combined (chosenOf rings (membersOf s a))
+abbrev foundAt : List ℕ → List ℕ → ℕ → List ℕ
+foundAt rings members a = combined (picked rings (getD members a 0))
 
--- the assemblies below a are combined
-pub record Assembled (rings : List BondSet) (s : Assemblies) (start found : List ℕ) (n a : ℕ) : Type 0 where
-  pub within : a ≤ s .count
-  pub gathered : Gathered (gather a (foundIn rings s)) start 0 found n
+-- in each no more than it has sums
+found-few : (rings members : List ℕ) (a : ℕ) → length (foundAt rings members a) ≤ sumsAt members a
+found-few rings members a = omega (arith, combined-few (picked rings (getD members a 0)), pow-mono (picked-few rings (getD members a 0)))
 
-module _ {b : Basis} {s : Assemblies} {start : List ℕ} (c : Combinable b s start) where
+-- so in all no more than they have sums
+all-found-few : (rings members : List ℕ) (n : ℕ) → length (foundIn rings members n) ≤ sumsIn members n
+all-found-few rings members n =
+    omega (
+      arith,
+      length-gather n (foundAt rings members),
+      total-share 1 1 n (λ a. length (foundAt rings members a)) (sumsAt members) (λ a l. omega (arith, found-few rings members a)),
+    )
+
+-- no fewer in more of them
+sums-mono : (members : List ℕ) (a n : ℕ) → a ≤ n → sumsIn members a ≤ sumsIn members n
+sums-mono members a n h =
+    le-ind (λ m. sumsIn members a ≤ sumsIn members m) (omega arith) (λ m (l : a ≤ m) ih. omega (arith, total-last m (sumsAt members))) n h
+
+module _ {b : Basis} {s : Assemblies} (c : Combinable b s) where
   -- what is found in all of them
-  all-found : gather (s .count) (foundIn (b .rings) s) ≡ allCombined (ringsOf b)
+  pub found-all : foundIn (b .rings) (s .members) (s .count) ≡ allCombined (ringsOf b)
   unfolding allCombined
-  all-found =
-      gather-ext (s .count) (foundIn (b .rings) s) (λ a. combined (ringsIn (ringsOf b) a)) (λ a l. ap combined (members-rings b (c .few) (c .counted) (c .assemblies) a l))
+  found-all =
+      gather-ext (s .count) (foundAt (b .rings) (s .members)) (λ a. combined (ringsIn (ringsOf b) a)) (λ a l. ap combined (picked-rings b (c .few) (c .counted) (c .assemblies) a l))
       ∙ ap (λ n. gather n (λ a. combined (ringsIn (ringsOf b) a))) (c .assemblies .count)
 
-  -- before the first
-  pub assembled-none : Assembled (b .rings) s start start 0 0
-  assembled-none = record { within = omega arith; gathered = subst⁻¹ (λ l. Gathered l start 0 start 0) (gather-zero (foundIn (b .rings) s)) (gathered-none (c .lent)) }
+  -- they have no more sums than those of any table
+  most-few : mostOf s ≤ most
+  most-few =
+      omega (
+        arith,
+        total-share maxAssembly (2 ^ maxAssembly - 1) (s .count) (sumsAt (s .members)) (λ a. size (membersOf s a)) (λ a l. sums-share (size (membersOf s a)) (c .small .small a l)),
+        held,
+        c .counted,
+        c .few,
+      )
+    where
+      held : total (listed (s .count) (λ a. true) (λ a. size (membersOf s a))) ≡ length (ringsOf b)
+      held =
+          ap total (listed-ext (s .count) (λ a. true) (λ a. true) (λ a. size (membersOf s a)) (λ a. length (ringsIn (ringsOf b) a)) (λ a l. refl) (λ a l t. members-size (c .assemblies) a l))
+          ∙ ap (λ n. total (listed n (λ a. true) (λ a. length (ringsIn (ringsOf b) a)))) (c .assemblies .count)
+          ∙ rings-total (ringsOf b)
 
-  module _ {found : List ℕ} {n a : ℕ} (t : Assembled (b .rings) s start found n a) where
-    -- there is room for what is found in the next
-    pub assembled-open : a < s .count → Open (foundIn (b .rings) s a) found n
-    assembled-open l =
-        gathered-open (t .gathered) (c .lent)
-        (omega (
-          arith,
-          ap length all-found,
-          ap length (gather-step a (foundIn (b .rings) s)),
-          length-append (gather a (foundIn (b .rings) s)) (foundIn (b .rings) s a),
-          gather-mono (foundIn (b .rings) s) (a + 1) (s .count) (omega arith),
-        ))
+  -- a list of so many words has room
+  roomy-most : Roomy s most
+  roomy-most = record { counted = c .small .counted; found = most-few; sums = λ a l. omega (arith, pow-mono (c .small .small a l)) }
 
-    -- the next
-    pub assembled-more : {end : List ℕ} {r : ℕ} → a < s .count → Gathered (foundIn (b .rings) s a) found n end r → Assembled (b .rings) s start end r (a + 1)
-    assembled-more {end} {r} l g = record {
-      within = omega arith;
-      gathered = subst⁻¹ (λ l. Gathered l start 0 end r) (gather-step a (foundIn (b .rings) s)) (gathered-more (t .gathered) g);
-    }
+-- a list has room that is longer than there are sums which are not empty
+roomy-less : {s : Assemblies} {n : ℕ} → s .count ≤ maxBonds → mostOf s < n → Roomy s n
+roomy-less {s} few h = record { counted = few; found = omega arith; sums = λ a l. omega (arith, total-each (s .count) (sumsAt (s .members)) a l) }
 
-    -- all of them
-    pub assembled-all : s .count ≤ a → Gathered (allCombined (ringsOf b)) start 0 found n
-    assembled-all l =
-        subst (λ l. Gathered l start 0 found n) all-found
-        (subst (λ k. Gathered (gather k (foundIn (b .rings) s)) start 0 found n) (le-antisymm (t .within) l) (t .gathered))
+-- ---- one assembly after another
+
+-- the assemblies below a are combined
+pub record Assembled (rings members : List ℕ) (n : ℕ) (start found : List ℕ) (r a : ℕ) : Type 0 where
+  pub within : a ≤ n
+  pub added : Appended (foundIn rings members a) start 0 found r
+
+-- before the first
+pub assembled-none : (rings members : List ℕ) (n : ℕ) (start : List ℕ) → Assembled rings members n start start 0 0
+assembled-none rings members n start = record {
+  within = omega arith;
+  added = subst⁻¹ (λ l. Appended l start 0 start 0) (gather-zero (foundAt rings members)) (appended-none start 0);
+}
+
+module _ {rings members : List ℕ} {n : ℕ} {start found : List ℕ} {r a : ℕ} (t : Assembled rings members n start found r a) where
+  -- there is room for what is found in the next
+  pub assembled-room : {m : ℕ} → m ≡ getD members a 0 → a < n → Listable members n (length start) → Room (combined (picked rings m)) found r
+  assembled-room is l h =
+      omega (
+        arith,
+        h .found,
+        t .added .long,
+        t .added .count,
+        all-found-few rings members a,
+        found-few rings members a,
+        ap (λ k. length (combined (picked rings k))) is,
+        total-last a (sumsAt members),
+        sums-mono members (suc a) n (omega arith),
+      )
+
+  -- the next
+  pub assembled-more : {m : ℕ} {end : List ℕ} {q : ℕ} → m ≡ getD members a 0 → a < n → Appended (combined (picked rings m)) found r end q → Assembled rings members n start end q (a + 1)
+  assembled-more {m} {end} {q} is l g = record {
+    within = omega arith;
+    added = subst⁻¹ (λ l. Appended l start 0 end q) (gather-step a (foundAt rings members)) (appended-more (t .added) (subst (λ k. Appended (combined (picked rings k)) found r end q) is g));
+  }
+
+  -- all of them
+  pub assembled-all : n ≤ a → Appended (foundIn rings members n) start 0 found r
+  assembled-all l = subst (λ k. Appended (foundIn rings members k) start 0 found r) (le-antisymm (t .within) l) (t .added)
+
+-- they are no more than there are sums
+pub combined-within : (rings members : List ℕ) (n : ℕ) {start found : List ℕ} {r : ℕ} → Appended (foundIn rings members n) start 0 found r → r ≤ sumsIn members n
+combined-within rings members n g = omega (arith, all-found-few rings members n, g .count)
+
+-- and in order they are listed
+pub combined-listed : {l start found lent end : List ℕ} {r : ℕ} → Appended l start 0 found r → length end ≡ length lent → take r end ≡ sort before (take r found) → Ordered l lent end r
+combined-listed g same e = record { long = same; count = g .count ∙ omega arith; list = e ∙ ap (sort before) (g .list) }
+
+-- ---- the rings in order
+
+module _ {rings start end : List ℕ} {r : ℕ} (o : Ordered rings start end r) where
+  -- so many they are
+  pub ordered-count : r ≡ length (sort before rings)
+  ordered-count = o .count ∙ sym (length-sort before rings)
+
+  -- there is room for them
+  pub ordered-within : r ≤ length end
+  ordered-within = omega (arith, ordered-count, ap length (o .list), length-take r end, min-le-right r (length end))
+
+-- what is found in all assemblies is in order
+pub ordered-all : {b : Basis} {s : Assemblies} {start end : List ℕ} {r : ℕ} → Combinable b s → Ordered (foundIn (b .rings) (s .members) (s .count)) start end r
+    → Ordered (allCombined (ringsOf b)) start end r
+ordered-all {start = start} {end} {r} c o = subst (λ l. Ordered l start end r) (found-all c) o
+
+-- each is a sum of basis rings, so a smallest basis can be chosen from them
+pub listed-choosable : {b : Basis} {s : Assemblies} {start end taken : List ℕ} {r : ℕ} → Combinable b s → Ordered (foundIn (b .rings) (s .members) (s .count)) start end r
+    → length taken ≡ room → Choosable end r (b .count) taken
+listed-choosable {b} c o t = record {
+  within = ordered-within o;
+  lent = t;
+  few = c .few;
+  spanned = (c .spanned .0, c .spanned .1, λ x i. c .spanned .2 x (sort-in before (allCombined (ringsOf b)) x .0 (rw (ordered-all c o .list) at i)));
+}
+
+module _ {rings start end lent taken : List ℕ} {n r : ℕ} (o : Ordered rings start end n) (chosen : Selected (take n end) lent taken r) where
+  -- what is chosen is taken of them
+  pub selected-list : take r taken ≡ taking [] (sort before rings)
+  selected-list = chosen .list ∙ ap (taking []) (o .list)
+
+  -- and so many are
+  pub selected-count : r ≡ length (taking [] (sort before rings))
+  selected-count = sym (length-take-le r taken (omega (arith, chosen .few, chosen .long))) ∙ ap length selected-list
 
 -- ---- the answers
 
 -- arrays of empty sets are blank
-pub all-blank : (m n : ℕ) → Blank (record { rings = replicate m none; count = 0 }) (record { members = replicate n noRings; count = 0 })
-all-blank m n = record { rings = refl; sets = λ i. ap bits (getD-same m i none); assemblies = refl; members = λ a. ap ringBits (getD-same n a noRings) }
+pub all-blank : (m n : ℕ) → Blank (record { rings = replicate m 0; count = 0 }) (record { members = replicate n 0; count = 0 })
+all-blank m n = record { rings = refl; sets = λ i. getD-same m i 0; assemblies = refl; members = λ a. getD-same n a 0 }
 
 -- the table is refused
-pub perceives-refused : {M : Table} {start : List ℕ} {p : Perceived} {number : ℕ} → number ≡ refusal M → 0 < number
-    → Refused number p → Perceives M start start p
-perceives-refused {M} {p = p} {number} given h r =
+pub perceives-refused : {M : Table} {p : Perceived} {number : ℕ} → number ≡ refusal M → 0 < number → Refused number p → Perceives M p
+perceives-refused {M} {p} {number} given h r =
     let kept : number ≡ refusalOfRings M = given ∙ sym (rings-kept M (λ z. absurd (omega arith))) in
-    record { number = r .number ∙ kept; long = refl; refused = λ n. (subst (λ c. Refused c p) kept r, refl); accepted = λ z. absurd (omega arith) }
+    record { number = r .number ∙ kept; refused = λ n. subst (λ c. Refused c p) kept r; accepted = λ z. absurd (omega arith) }
 
 module _ {M : Table} {b : Basis} {s : Assemblies} {number : ℕ} (given : number ≡ refusal M) (zero : number ≤ 0) (held : BasisOf M b) (h : AssembliesOf (ringsOf b) s)
     {t : Bool} (test : t ≡ tangledOf s) where
-  -- the table is not refused
-  free : refusal M ≡ 0
-  free = omega arith
-
   -- the assemblies alone decide
-  decided : {c : Bool} → t ≡ c → (tangled? M ≡ c) × (refusalOfRings M ≡ cond c TANGLED 0)
-  decided e = let d = sym (tangled-test held h) ∙ sym test ∙ e in (d, rings-free M free ∙ ap (λ c. cond c TANGLED 0) d)
+  decided : {c : Bool} → t ≡ c → refusalOfRings M ≡ cond c TANGLED 0
+  decided e = rings-free M (omega arith) ∙ ap (λ c. cond c TANGLED 0) (sym (tangled-test held h) ∙ sym test ∙ e)
 
   -- an assembly has too many basis rings
-  pub perceives-tangled : {start : List ℕ} {p : Perceived} → t ≡ true → Refused TANGLED p → Perceives M start start p
-  perceives-tangled {p = p} q r =
-      let e : TANGLED ≡ refusalOfRings M = sym (decided q .1) in
-      record { number = r .number ∙ e; long = refl; refused = λ n. (subst (λ c. Refused c p) e r, refl); accepted = λ z. absurd (omega arith) }
+  pub perceives-tangled : {p : Perceived} → t ≡ true → Refused TANGLED p → Perceives M p
+  perceives-tangled {p} q r =
+      let e : TANGLED ≡ refusalOfRings M = sym (decided q) in
+      record { number = r .number ∙ e; refused = λ n. subst (λ c. Refused c p) e r; accepted = λ z. absurd (omega arith) }
 
-  -- none has: there is room for all rings
-  pub perceives-combinable : {start : List ℕ} → t ≡ false → length start ≡ most → Combinable b s start
-  unfolding sort
-  perceives-combinable q l = record {
-    counted = ap length (held .rings) ∙ sym (held .count);
-    few = held .counted;
-    assemblies = h;
-    small = λ a l. ltb-false maxAssembly (size (membersOf s a)) (none-at (s .count) (λ k. ltb maxAssembly (size (membersOf s k))) (sym test ∙ q) a l);
-    lent = record { long = l; ordered = refl; room = omega (arith, ap (λ rs. length (allCombined rs)) (held .rings), all-combined-few (accepted M .0 free) (decided q .0)) };
+  -- none has
+  pub perceives-all : {n : ℕ} → t ≡ false → n ≡ mostOf s → Perceives M (record { number = 0; basis = b; assemblies = s; most = n })
+  perceives-all q e = record {
+    number = sym (decided q);
+    refused = λ n. absurd (n (decided q));
+    accepted = λ z. record { basis = held; assemblies = subst (λ rs. AssembliesOf rs s) (held .rings) h; most = e };
   }
 
-  -- and they are worked out
-  pub perceives-all : {start end : List ℕ} {r : ℕ} → t ≡ false → Gathered (allCombined (ringsOf b)) start 0 end r
-      → Perceives M start end (record { number = 0; count = r; basis = b; assemblies = s })
-  unfolding over
-  perceives-all {start} {end} {r} q g = record {
-    number = sym (decided q .1);
-    long = g .long;
-    refused = λ n. absurd (n (decided q .1));
-    accepted = λ z. record {
-      count = many;
-      list = sym (take-append-drop r end) ∙ ap₂ _++_ (g .list ∙ sorted) (g .rest ∙ ap (λ k. drop k start) many);
-      basis = held;
-      assemblies = subst (λ rs. AssembliesOf rs s) (held .rings) h;
-    };
-  }
-    where
-      sorted : sort before (allCombined (ringsOf b) ++ []) ≡ allRings M
-      sorted = ap (sort before) (append-nil (allCombined (ringsOf b))) ∙ ap (λ rs. sort before (allCombined rs)) (held .rings) ∙ all-combined (accepted M .0 free)
+-- ---- what is worked out of an accepted table
 
-      many : r ≡ length (allRings M)
-      many = omega (arith, g .count, ap length sorted, length-sort before (allCombined (ringsOf b) ++ []), length-append (allCombined (ringsOf b)) [])
-
--- ---- what an accepted table's rings give
-
-module _ {M : Table} {start end : List ℕ} {p : Perceived} (seen : Perceives M start end p) (zero : p .number ≤ 0) where
+module _ {M : Table} {p : Perceived} (seen : Perceives M p) (zero : p .number ≤ 0) where
   -- nothing is refused
   unrefused : refusalOfRings M ≡ 0
   unrefused = omega (arith, seen .number)
 
   -- it is worked out
-  pub perceived : Accepted M start end p
+  pub perceived : Accepted M p
   perceived = seen .accepted unrefused
 
   -- the table is valid
   pub perceived-valid : Valid M
   perceived-valid = accepted M .0 (rings-accepted M .0 unrefused .0)
 
-  -- all rings stand at the start of the list
-  pub perceived-found : take (p .count) end ≡ allRings M
-  unfolding over
-  perceived-found = ap₂ take (perceived .count) (perceived .list) ∙ take-append-seam (allRings M) (drop (length (allRings M)) start)
+  -- what the combination finds is all rings
+  pub perceived-rings : sort before (allCombined (ringsOf (p .basis))) ≡ allRings M
+  perceived-rings = ap (λ rs. sort before (allCombined rs)) (perceived .basis .rings) ∙ all-combined perceived-valid
 
-  -- which has room for them
-  pub perceived-few : p .count ≤ most
-  perceived-few = omega (arith, perceived .count, all-rings-few perceived-valid (rings-accepted M .0 unrefused .1))
-
-  -- each is a sum of basis rings
-  pub perceived-choosable : {taken : List ℕ} → length start ≡ most → length taken ≡ room → Choosable end (p .count) (p .basis .count) taken
-  perceived-choosable l t = record {
-    long = seen .long ∙ l;
-    within = perceived-few;
-    lent = t;
-    few = perceived .basis .counted;
-    spanned = (
-      basisRings M,
-      sym (perceived .basis .count),
-      λ s i. even-sums perceived-valid s .1 (all-rings-are M s .0 (rw perceived-found at i) .even),
-    );
-  }
-
-  -- so what is selected of them is the smallest basis
-  pub perceived-smallest : {lent taken : List ℕ} {r : ℕ} → Selected (take (p .count) end) lent taken r → take r taken ≡ smallestBasis M
+  -- and what is taken of them is the smallest basis
+  pub perceived-smallest : taking [] (sort before (allCombined (ringsOf (p .basis)))) ≡ smallestBasis M
   unfolding smallestBasis
-  perceived-smallest s = s .list ∙ ap (taking []) perceived-found
+  perceived-smallest = ap (taking []) perceived-rings
 
-  -- and so many are selected
-  pub perceived-selected : {lent taken : List ℕ} {r : ℕ} → Selected (take (p .count) end) lent taken r → r ≡ length (smallestBasis M)
-  perceived-selected {taken = taken} {r} s = sym (length-take-le r taken (omega (arith, s .few, s .long))) ∙ ap length (perceived-smallest s)
+  -- the basis rings can be combined
+  pub perceived-combinable : Combinable (p .basis) (p .assemblies)
+  perceived-combinable = record {
+    counted = ap length (perceived .basis .rings) ∙ sym (perceived .basis .count);
+    few = perceived .basis .counted;
+    assemblies = own;
+    small = untangled-small own refl (tangled-test (perceived .basis) own ∙ rings-accepted M .0 unrefused .1);
+    spanned = (basisRings M, sym (perceived .basis .count), λ x i. even-sums perceived-valid x .1 (all-rings-are M x .0 (ring x i) .even));
+  }
+    where
+      own : AssembliesOf (ringsOf (p .basis)) (p .assemblies)
+      own = subst⁻¹ (λ rs. AssembliesOf rs (p .assemblies)) (perceived .basis .rings) (perceived .assemblies)
+
+      ring : (x : ℕ) → In x (allCombined (ringsOf (p .basis))) → In x (allRings M)
+      ring x i = subst (In x) perceived-rings (sort-in before (allCombined (ringsOf (p .basis))) x .1 i)
+
+  -- a list has room for them that is longer than they have sums which are not empty
+  pub perceived-less : {n : ℕ} → p .most < n → Roomy (p .assemblies) n
+  perceived-less h = roomy-less (perceived .assemblies .counted) (omega (arith, perceived .most))
+
+  -- and so has the longest list
+  pub perceived-roomy : Roomy (p .assemblies) most
+  perceived-roomy = roomy-most perceived-combinable
+
+  -- an answer that holds what the table asks for is the table's
+  pub perceived-outcome : {found wanted : List ℕ} (lent : List ℕ) {r : Outcome} → found ≡ wanted → r ≡ outcome 0 found lent → r ≡ outcome (refusalOfRings M) wanted lent
+  perceived-outcome lent e h = h ∙ ap₂ (λ c l. outcome c l lent) (sym unrefused) e

@@ -2,12 +2,12 @@
 -- rest adds nothing. Assumes nothing.
 use mathlib.Core.Path.{_≡_, refl, sym, ap, _∙_}
 use mathlib.Core.List.{List, [], _∷_, _++_}
-use Prim.Native.Nat.{ℕ, _+_, _^_, _<_, _≤_}
+use Prim.Native.Nat.{ℕ, _+_, _-_, _^_, _<_, _≤_}
 use native.Mathlib.Numerals.{add-one}
 use native.Mathlib.Nat.{le-antisymm}
 use native.Mathlib.Omega.{arith}
 use lib.ListN.{length, take, drop, getD, set, replicate, length-set, length-replicate, getD-replicate}
-use lib.Seq.{take-suc-set, drop-set-lt, take-take, length-take-le}
+use lib.Seq.{take-suc-set, drop-set-lt, take-take, length-take-le, drop-drop}
 use Rattle.sets.specs.Bits.{IsNext}
 use Rattle.sets.specs.Bond.{room}
 use Rattle.definitions.specs.Smallest.{SumOf, sum?, taking}
@@ -16,9 +16,7 @@ use Rattle.definitions.proofs.Lists.{length-snoc}
 use Rattle.spans.proofs.Choice.{sum?-test}
 use Rattle.spans.proofs.Taking.{taking-full, taking-leave-at, taking-keep-at}
 use Rattle.spans.proofs.Elimination.{Lowest, lowest-first, nothing-first, Remainder, kept-none, kept-zero, kept-left, kept-more}
-use Rattle.rings.specs.Found.{most}
 use Rattle.rings.specs.Elimination.{takenWith, Eliminated, Stepped, Choosable, Selected}
-use Rattle.rings.proofs.Gathering.{drop-later}
 
 -- ---- one ring more
 
@@ -66,6 +64,13 @@ module _ {kept taken : List ℕ} {n ring w rest k : ℕ} (e : Eliminated kept ta
   pub step-old : rest < 2 ^ room → room ≤ k → Stepped taken n ring kept taken n
   step-old b l = record { state = e; list = sym (with-sum (take n taken) ring (rw is at (kept-zero (e .sums) left (nothing-first room next b l)))); rest = refl }
 
+-- lists that agree from one place on agree from a later one on
+drop-later : (l m : List ℕ) (i j : ℕ) → i ≤ j → drop i l ≡ drop i m → drop j l ≡ drop j m
+drop-later l m i j h e = split l ∙ ap (drop (j - i)) e ∙ sym (split m)
+  where
+    split : (k : List ℕ) → drop j k ≡ drop (j - i) (drop i k)
+    split k = ap (λ n. drop n k) {x = j} {y = i + (j - i)} (omega arith) ∙ sym (drop-drop (j - i) i k)
+
 -- ---- the loop: i rings are gone through, and n of them are taken
 
 pub record Selecting (found : List ℕ) (m want : ℕ) (start kept taken : List ℕ) (n i : ℕ) : Type 0 where
@@ -111,7 +116,7 @@ module _ {found : List ℕ} {m want : ℕ} {start : List ℕ} (c : Choosable fou
         now = ap length (sym (t .list)) ∙ length-take-le r taken′ (omega (arith, t .state .few, t .state .lent))
 
         inside : i < length found
-        inside = omega (arith, c .long, c .within)
+        inside = omega (arith, c .within)
 
         next : takenWith (taking [] (take i found)) (getD found i 0) ≡ taking [] (take (i + 1) found)
         next =

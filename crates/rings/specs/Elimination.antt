@@ -8,7 +8,6 @@ use Prim.Native.Nat.{ℕ, _≤_}
 use lib.ListN.{length, take, drop}
 use Rattle.sets.specs.Bond.{room}
 use Rattle.definitions.specs.Smallest.{SumOf, sum?, taking}
-use Rattle.rings.specs.Found.{most}
 use Rattle.spans.proofs.Elimination.{Kept}
 
 -- the rings taken, with the next one where it is no sum of them
@@ -34,8 +33,7 @@ Spanned n l = (vs : List ℕ) × (length vs ≡ n) × ((x : ℕ) → In x l → 
 
 -- the first n words of an array are sums of as many sets as are wanted, and there is room to take so many
 pub record Choosable (found : List ℕ) (n want : ℕ) (taken : List ℕ) : Type 0 where
-  pub long : length found ≡ most
-  pub within : n ≤ most
+  pub within : n ≤ length found
   pub lent : length taken ≡ room
   pub few : want ≤ room
   pub spanned : Spanned want (take n found)

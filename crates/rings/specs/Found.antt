@@ -1,4 +1,4 @@
--- The rings found so far: the first n words of a list, in the order of all rings.
+-- The rings found so far: the first n words of a list. They are found one after another and then put in order.
 -- Assumes nothing.
 use mathlib.Core.Path.{_≡_}
 use mathlib.Core.List.{List, _++_}
@@ -14,19 +14,22 @@ use Rattle.definitions.specs.AllRings.{before}
 abbrev pub most : ℕ
 most = (2 ^ maxAssembly - 1) * maxBonds / maxAssembly
 
--- a list is in the order of all rings
-abbrev pub InOrder : List ℕ → Type 0
-InOrder l = sort before l ≡ l
+-- the words of a list from one place up to another
+abbrev pub between : ℕ → ℕ → List ℕ → List ℕ
+between from to l = drop from (take to l)
 
--- the first n of a list are in order, and there is room for new ones
-pub record Open (new found : List ℕ) (n : ℕ) : Type 0 where
-  pub long : length found ≡ most
-  pub ordered : InOrder (take n found)
-  pub room : n + length new ≤ most
+-- there is room for new rings after the first n
+abbrev pub Room : List ℕ → List ℕ → ℕ → Type 0
+Room new found n = n + length new ≤ length found
 
--- new rings are put among the first n of a list, each at its place: they are then among the first r, and the rest is as it was
-pub record Gathered (new start : List ℕ) (n : ℕ) (end : List ℕ) (r : ℕ) : Type 0 where
+-- new rings follow the first n of a list: they are then the first r
+pub record Appended (new start : List ℕ) (n : ℕ) (end : List ℕ) (r : ℕ) : Type 0 where
   pub long : length end ≡ length start
   pub count : r ≡ n + length new
-  pub list : take r end ≡ sort before (new ++ take n start)
-  pub rest : drop r end ≡ drop r start
+  pub list : take r end ≡ take n start ++ new
+
+-- the first r words of a list are rings in order
+pub record Ordered (rings start end : List ℕ) (r : ℕ) : Type 0 where
+  pub long : length end ≡ length start
+  pub count : r ≡ length rings
+  pub list : take r end ≡ sort before rings

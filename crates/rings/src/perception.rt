@@ -1,9 +1,9 @@
-// What all rings, the smallest basis and the label have in common: the refusal, the basis rings, the assemblies and all rings in order.
-use super::order::MOST;
+// What all rings, the smallest basis and the label have in common: the refusal, the basis rings and the assemblies, and from these all
+// rings in order.
+use super::order::order_rings;
 use super::sums::add_assembly;
 use basis::Assemblies;
 use basis::Basis;
-use sets::BondSet;
 use sets::RingSet;
 use table::MAX_BONDS;
 use table::TANGLED;
@@ -12,20 +12,20 @@ ghost use Prim.Native.Nat.{_≤_};
 ghost use lib.ListN.{length};
 ghost use Rattle.sets.specs.Bond.{room};
 ghost use Rattle.definitions.specs.Table.{table};
-ghost use Rattle.basis.specs.Held.{ringsOf};
-ghost use Rattle.rings.specs.Found.{most, Gathered};
-ghost use Rattle.rings.specs.Gibbs.{allCombined};
-ghost use Rattle.rings.specs.Perceiving.{tangledOf, Combinable, Refused, Perceives};
+ghost use Rattle.rings.specs.Found.{Appended, Ordered};
+ghost use Rattle.rings.specs.Gibbs.{foundIn};
+ghost use Rattle.rings.specs.Perceiving.{tangledOf, mostOf, Small, Listable, Refused, Perceives};
 
 // The most basis rings that an assembly may have.
 const MAX_ASSEMBLY: usize = 10;
 
-// The number of the refusal, or 0 and how many rings there are, with the basis rings and the assemblies.
+// The number of the refusal, or 0 with the basis rings, the assemblies, and how many sums these have that are not empty: there are no
+// more rings than that.
 pub struct Perceived {
     pub number: u8,
-    pub count: usize,
     pub basis: Basis,
     pub assemblies: Assemblies,
+    pub most: usize,
 }
 
 // A refusal, with nothing worked out.
@@ -33,18 +33,18 @@ fn refused(number: u8) -> Perceived
     ensures { λ r. ⌜ Refused number r ⌝ }
 {
     let basis = Basis {
-        rings: [BondSet::EMPTY; MAX_BONDS],
+        rings: [0u64; MAX_BONDS],
         count: 0,
     };
     let assemblies = Assemblies {
-        members: [RingSet::EMPTY; MAX_BONDS],
+        members: [0u64; MAX_BONDS],
         count: 0,
     };
     Perceived {
         number,
-        count: 0,
         basis,
         assemblies,
+        most: 0,
     }
 }
 
@@ -55,8 +55,7 @@ fn tangled(assemblies: Assemblies) -> bool
 {
     let mut a: usize = 0;
     while a < assemblies.count {
-        let members = assemblies.members[a];
-        if members.size() > MAX_ASSEMBLY {
+        if RingSet::of_word(assemblies.members[a]).size() > MAX_ASSEMBLY {
             return true;
         }
         a += 1;
@@ -64,26 +63,23 @@ fn tangled(assemblies: Assemblies) -> bool
     false
 }
 
-// The rings of all assemblies, in order at the start of a list, and how many there are.
-fn combine(basis: Basis, assemblies: Assemblies, found: &mut [u64; MOST]) -> usize
-    requires { ⌜ Combinable basis assemblies (now found) ⌝ }
-    ensures { λ r. ⌜ Gathered (allCombined (ringsOf basis)) (now (found .entry)) 0 (now (found .exit)) r ⌝ }
+// How many sums that are not empty the assemblies have.
+fn most_of(assemblies: Assemblies) -> usize
+    requires { ⌜ Small assemblies ⌝ }
+    ensures { λ r. ⌜ r ≡ mostOf assemblies ⌝ }
 {
-    let rings = basis.rings;
-    let mut count: usize = 0;
-    let mut done: usize = 0;
-    while done < assemblies.count {
-        let members = assemblies.members[done];
-        count = add_assembly(rings, members, found, count);
-        done += 1;
+    let mut most: usize = 0;
+    let mut a: usize = 0;
+    while a < assemblies.count {
+        most += (1 << RingSet::of_word(assemblies.members[a]).size()) - 1;
+        a += 1;
     }
-    count
+    most
 }
 
-// What is worked out of a table. The rings are put over the start of a list of MOST words.
-pub fn perceive(atoms: u64, bonds: &[u8], found: &mut [u64; MOST]) -> Perceived
-    requires { ⌜ length (now found) ≡ most ⌝ }
-    ensures { λ r. ⌜ Perceives (table atoms (now (bonds .entry))) (now (found .entry)) (now (found .exit)) r ⌝ }
+// What is worked out of a table.
+pub fn perceive(atoms: u64, bonds: &[u8]) -> Perceived
+    ensures { λ r. ⌜ Perceives (table atoms (now (bonds .entry))) r ⌝ }
 {
     let number = table::refusal_of(atoms, bonds);
     if number > 0 {
@@ -94,11 +90,50 @@ pub fn perceive(atoms: u64, bonds: &[u8], found: &mut [u64; MOST]) -> Perceived
     if tangled(assemblies) {
         return refused(TANGLED);
     }
-    let count = combine(basis, assemblies, found);
     Perceived {
         number: 0,
-        count,
         basis,
         assemblies,
+        most: most_of(assemblies),
     }
+}
+
+// The rings of the first assemblies, given by their sets of basis rings, one assembly after another at the start of a list, and how many
+// there are. The sums of an assembly stand in another list.
+fn combine(
+    rings: &[u64; MAX_BONDS],
+    members: &[u64; MAX_BONDS],
+    assemblies: usize,
+    sums: &mut [u64],
+    found: &mut [u64],
+) -> usize
+    requires { ⌜ Listable (now members) assemblies (length (now sums)) × Listable (now members) assemblies (length (now found)) ⌝ }
+    ensures kept { λ r. ⌜ length (now (sums .exit)) ≡ length (now (sums .entry)) ⌝ }
+    ensures found { λ r. ⌜ Appended (foundIn (now (rings .entry)) (now (members .entry)) assemblies) (now (found .entry)) 0 (now (found .exit)) r ⌝ }
+{
+    let mut count: usize = 0;
+    let mut done: usize = 0;
+    while done < assemblies {
+        count = add_assembly(rings, RingSet::of_word(members[done]), sums, found, count);
+        done += 1;
+    }
+    count
+}
+
+// All rings of the first assemblies, given by their sets of basis rings, in order at the start of a list, and how many there are. They
+// are worked out in another list as long; the one in which they come to stand holds the sums before that.
+pub fn list_rings(
+    rings: &[u64; MAX_BONDS],
+    members: &[u64; MAX_BONDS],
+    assemblies: usize,
+    found: &mut [u64],
+    ordered: &mut [u64],
+) -> usize
+    requires { ⌜ Listable (now members) assemblies (length (now found)) × Listable (now members) assemblies (length (now ordered)) ⌝ }
+    ensures kept { λ r. ⌜ length (now (found .exit)) ≡ length (now (found .entry)) ⌝ }
+    ensures listed { λ r. ⌜ Ordered (foundIn (now (rings .entry)) (now (members .entry)) assemblies) (now (ordered .entry)) (now (ordered .exit)) r ⌝ }
+{
+    let count = combine(rings, members, assemblies, ordered, found);
+    order_rings(found, count, ordered);
+    count
 }

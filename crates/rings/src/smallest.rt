@@ -1,6 +1,5 @@
 // The smallest basis by elimination: the rings are gone through in order, and each is taken of which something is left after the sets
 // kept are summed with it. What is left is kept, at its lowest bond.
-use super::order::MOST;
 use sets::BondSet;
 use table::MAX_BONDS;
 ghost use Prim.Native.Nat.{_<_};
@@ -48,12 +47,7 @@ fn take_new(
 
 // The smallest basis of the first n rings of a list, which are sums of as many basis rings as are wanted: when so many are taken, the rest
 // are sums of them.
-pub fn smallest_of(
-    found: &[u64; MOST],
-    n: usize,
-    want: usize,
-    taken: &mut [u64; MAX_BONDS],
-) -> usize
+pub fn smallest_of(found: &[u64], n: usize, want: usize, taken: &mut [u64; MAX_BONDS]) -> usize
     requires { ⌜ Choosable (now found) n want (now taken) ⌝ }
     ensures { λ r. ⌜ Selected (take n (now (found .entry))) (now (taken .entry)) (now (taken .exit)) r ⌝ }
 {

@@ -1,29 +1,22 @@
 // Gibbs' combination of the basis rings of an assembly, as 000 has it. The basis rings are taken in turn, and each is summed with the sums
-// of those before it, the old sets: this is its group. A sum is a ring where no other sum of its group lies inside it, since of two even
-// sets that make up a sum one has the closure bond of its basis ring, and that one is of the group.
-use super::order::MOST;
-use super::order::insert;
+// of those before it, the old sets: this is its group. A sum of the group is a ring where no ring found in the groups before lies inside
+// it, since of two even sets that make up a sum one has not the closure bond of its basis ring, and in that one lies such a ring.
 use sets::BondSet;
 use sets::RingSet;
 use table::MAX_BONDS;
 ghost use mathlib.Core.Path.{_≡_};
-ghost use mathlib.Core.List.{[], _∷_};
-ghost use Prim.Native.Nat.{_+_, _<_, _≤_};
-ghost use lib.ListN.{length, getD};
-ghost use lib.Bits.{bitXor};
+ghost use Prim.Native.Nat.{_+_, _^_, _<_, _≤_};
+ghost use lib.ListN.{length};
 ghost use Rattle.sets.specs.Bits as set;
 ghost use Rattle.sets.specs.Bond.{bits};
 ghost use Rattle.sets.specs.Ring as superset;
-ghost use Rattle.definitions.specs.Assembly.{maxAssembly};
-ghost use Rattle.rings.specs.Found.{Open, Gathered};
-ghost use Rattle.rings.specs.Gibbs.{groupAt, splits?, least?, leastOf, combined, sumsHeld, Doubled, Grouped, chosenOf};
-
-// How many sums ten basis rings have.
-const SUMS: usize = 1024;
+ghost use Rattle.basis.specs.Held.{picked};
+ghost use Rattle.rings.specs.Found.{Room, Appended, between};
+ghost use Rattle.rings.specs.Gibbs.{clear?, ringsAmong, combined, Doubled};
 
 // The old sets are followed by the group of a basis ring.
-fn double(sums: &mut [u64; SUMS], half: usize, ring: BondSet)
-    requires { ⌜ (length (now sums) ≡ sumsHeld) × (half + half ≤ sumsHeld) ⌝ }
+fn double(sums: &mut [u64], half: usize, ring: BondSet)
+    requires { ⌜ half + half ≤ length (now sums) ⌝ }
     ensures { λ _. ⌜ Doubled (now (sums .entry)) half (bits ring) (now (sums .exit)) ⌝ }
 {
     let mut j: usize = 0;
@@ -33,90 +26,67 @@ fn double(sums: &mut [u64; SUMS], half: usize, ring: BondSet)
     }
 }
 
-// Does a part lie inside a whole, and is not all of it?
-fn splits(part: BondSet, whole: BondSet) -> bool
-    ensures { λ r. ⌜ r ≡ splits? (bits part) (bits whole) ⌝ }
+// Does none of the rings found from one place up to another lie inside a sum?
+fn is_ring(found: &[u64], from: usize, to: usize, sum: BondSet) -> bool
+    requires { ⌜ (from ≤ to) × (to ≤ length (now found)) ⌝ }
+    ensures { λ r. ⌜ r ≡ clear? (between from to (now (found .entry))) (bits sum) ⌝ }
 {
-    part.inside(whole) & (part.0 != whole.0)
-}
-
-// Is the sum of a basis ring and an old set a ring? Where the two share no bond it is not, unless the old set is empty.
-fn is_ring(sums: &[u64; SUMS], half: usize, ring: BondSet, old: BondSet) -> bool
-    requires { ⌜ Grouped (now sums) half (bits ring) ⌝ }
-    ensures { λ r. ⌜ r ≡ least? (groupAt (now (sums .entry)) half (bits ring)) (bitXor (bits ring) (bits old)) ⌝ }
-{
-    let sum = ring.sum(old);
-    if (old.0 != 0) & !old.meets(ring) {
-        return false;
-    }
-    let mut j: usize = half;
-    while j < half + half {
-        if splits(BondSet::of_word(sums[j]), sum) {
+    let mut i = from;
+    while i < to {
+        if BondSet::of_word(found[i]).inside(sum) {
             return false;
         }
-        j += 1;
+        i += 1;
     }
     true
 }
 
-// The sum of a basis ring and the old set at a place is put among the rings found where it is a ring.
-fn add_sum(
-    sums: &[u64; SUMS],
-    half: usize,
-    ring: BondSet,
-    j: usize,
-    found: &mut [u64; MOST],
-    n: usize,
-) -> usize
-    requires { ⌜ (Grouped (now sums) half (bits ring)) × (j < half) × (Open (leastOf (groupAt (now sums) half (bits ring)) (bitXor (bits ring) (getD (now sums) j 0) ∷ [])) (now found) n) ⌝ }
-    ensures { λ r. ⌜ Gathered (leastOf (groupAt (now (sums .entry)) half (bits ring)) (bitXor (bits ring) (getD (now (sums .entry)) j 0) ∷ [])) (now (found .entry)) n (now (found .exit)) r ⌝ }
+// The sum at a place follows the rings found where it is a ring, which those from one place up to another tell.
+fn add_sum(sums: &[u64], j: usize, found: &mut [u64], from: usize, to: usize, n: usize) -> usize
+    requires { ⌜ (j < length (now sums)) × (from ≤ to) × (to ≤ n) × (Room (ringsAmong (between from to (now found)) (between j (j + 1) (now sums))) (now found) n) ⌝ }
+    ensures { λ r. ⌜ Appended (ringsAmong (between from to (now (found .entry))) (between j (j + 1) (now (sums .entry)))) (now (found .entry)) n (now (found .exit)) r ⌝ }
 {
-    let old = BondSet::of_word(sums[j]);
-    if is_ring(sums, half, ring, old) {
-        insert(found, n, ring.sum(old).0);
+    let sum = BondSet::of_word(sums[j]);
+    if is_ring(found, from, to, sum) {
+        found[n] = sum.0;
         return n + 1;
     }
     n
 }
 
-// The rings of a group are put among the rings found.
-fn add_group(
-    sums: &[u64; SUMS],
-    half: usize,
-    ring: BondSet,
-    found: &mut [u64; MOST],
-    n: usize,
-) -> usize
-    requires { ⌜ (Grouped (now sums) half (bits ring)) × (Open (leastOf (groupAt (now sums) half (bits ring)) (groupAt (now sums) half (bits ring))) (now found) n) ⌝ }
-    ensures { λ r. ⌜ Gathered (leastOf (groupAt (now (sums .entry)) half (bits ring)) (groupAt (now (sums .entry)) half (bits ring))) (now (found .entry)) n (now (found .exit)) r ⌝ }
+// The rings of a group, which are told by the rings found before it from one place on, follow these.
+fn add_group(sums: &[u64], half: usize, found: &mut [u64], from: usize, n: usize) -> usize
+    requires { ⌜ (half + half ≤ length (now sums)) × (from ≤ n) × (Room (ringsAmong (between from n (now found)) (between half (half + half) (now sums))) (now found) n) ⌝ }
+    ensures { λ r. ⌜ Appended (ringsAmong (between from n (now (found .entry))) (between half (half + half) (now (sums .entry)))) (now (found .entry)) n (now (found .exit)) r ⌝ }
 {
     let mut count = n;
-    let mut j: usize = 0;
-    while j < half {
-        count = add_sum(sums, half, ring, j, found, count);
+    let mut j = half;
+    while j < half + half {
+        count = add_sum(sums, j, found, from, n, count);
         j += 1;
     }
     count
 }
 
-// The rings of an assembly, given by the places of its basis rings, are put among the rings found.
+// The rings of an assembly, given by the places of its basis rings, follow the rings found. Its sums stand in a list of their own.
 pub(crate) fn add_assembly(
-    rings: [BondSet; MAX_BONDS],
+    rings: &[u64; MAX_BONDS],
     members: RingSet,
-    found: &mut [u64; MOST],
+    sums: &mut [u64],
+    found: &mut [u64],
     n: usize,
 ) -> usize
-    requires { ⌜ (set.size (superset.bits members) ≤ maxAssembly) × (Open (combined (chosenOf rings (superset.bits members))) (now found) n) ⌝ }
-    ensures { λ r. ⌜ Gathered (combined (chosenOf rings (superset.bits members))) (now (found .entry)) n (now (found .exit)) r ⌝ }
+    requires { ⌜ (2 ^ set.size (superset.bits members) ≤ length (now sums)) × (Room (combined (picked (now rings) (superset.bits members))) (now found) n) ⌝ }
+    ensures kept { λ r. ⌜ length (now (sums .exit)) ≡ length (now (sums .entry)) ⌝ }
+    ensures added { λ r. ⌜ Appended (combined (picked (now (rings .entry)) (superset.bits members))) (now (found .entry)) n (now (found .exit)) r ⌝ }
 {
-    let mut sums = [0u64; SUMS];
+    sums[0] = 0;
     let mut half: usize = 1;
     let mut count = n;
     let mut i = members.next(0);
     while i <= RingSet::LAST {
-        let ring = rings[i];
-        double(&mut sums, half, ring);
-        count = add_group(&sums, half, ring, found, count);
+        double(sums, half, BondSet::of_word(rings[i]));
+        count = add_group(sums, half, found, n, count);
         half = half + half;
         i = members.next(i + 1);
     }

@@ -1,7 +1,7 @@
 -- A set of small numbers is a natural number: k is a member where binary digit k is set. Nothing here bounds the number. Assumes nothing.
 use mathlib.Core.Bool.{Bool, true, false, not, cond}
 use mathlib.Core.Path.{_≡_}
-use Prim.Native.Nat.{ℕ, _/_, _%_, _^_, _≤_, _<_}
+use Prim.Native.Nat.{ℕ, _-_, _/_, _%_, _^_, _≤_, _<_}
 use lib.Bits.{bitAnd, bitOr, bitXor}
 use lib.Count.{ones}
 use lib.Dec.{eqb, ltb}
@@ -21,6 +21,10 @@ sub s t = eqb (bitAnd s t) s
 -- how many members s has
 abbrev pub size : ℕ → ℕ
 size = ones
+
+-- all numbers below n
+unfoldable pub allBelow : ℕ → ℕ
+allBelow n = 2 ^ n - 1
 
 -- s and k, s less k
 unfoldable pub with : ℕ → ℕ → ℕ

@@ -7,6 +7,10 @@ use Rattle.sets.specs.declared.bond.BondSet.{BondSet}
 abbrev pub bits : BondSet → ℕ
 bits s = s .0
 
+-- the set with no bond
+abbrev pub noBonds : BondSet
+noBonds = record { 0 = 0 }
+
 -- the members are below this: LAST is one less
 abbrev pub room : ℕ
 room = 64

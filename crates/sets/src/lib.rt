@@ -1,8 +1,10 @@
-// Sets of bonds and sets of basis rings, kept apart by kind, each in one word. A member is a number up to LAST; no other
-// number is one: it leaves a set as it is. No function takes one kind for the other.
+// Sets of bonds, of basis rings and of atoms, kept apart by kind, each in one word. A member is a number up to LAST; no other
+// number is one: it leaves a set as it is. No function takes one kind for another.
+mod atom;
 mod bond;
 mod ring;
 mod word;
 
+pub use atom::AtomSet;
 pub use bond::BondSet;
 pub use ring::RingSet;

@@ -1,10 +1,17 @@
-// A set in one word: member k is the digit k. What BondSet and RingSet share; no other crate can name it.
+// A set in one word: member k is the digit k. What the kinds of sets share; no other crate can name it.
 ghost use mathlib.Core.Path.{_≡_};
-ghost use Prim.Native.Nat.{_≤_};
+ghost use Prim.Native.Nat.{_≤_, min};
 ghost use Rattle.sets.specs.Bits as spec;
 
 // The members that a word can hold are those below SIZE.
 pub const SIZE: usize = 64;
+
+// All numbers below n that a word holds.
+pub(crate) fn below(n: usize) -> u64
+    ensures { λ r. ⌜ r ≡ spec.allBelow (min n 64) ⌝ }
+{
+    if n < SIZE { (1 << n) - 1 } else { u64::MAX }
+}
 
 // The set and k; the set as it is where no word holds k.
 pub(crate) fn put(w: u64, k: usize) -> u64

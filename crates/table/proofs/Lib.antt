@@ -2,10 +2,16 @@
 --     Answers      refused, too little room, written from the start: each as the outcome
 --     Filling      the invariants of a list filled from its start
 --     Tried        the refusals as the check tries them
---     Leading      the list by which closure bonds are found
 --     Meeting      the rows, and the bytes of an accepted table
+--     Doubling     pairs of atoms bonded twice, as the rows tell them
+--     Counting     as many basis rings as bonds and fragments less atoms
+--     Bonding      the neighbours of each atom
+--     Flooding     the flood over the atoms that counts the fragments
 pub mod Answers
 pub mod Filling
 pub mod Tried
-pub mod Leading
 pub mod Meeting
+pub mod Doubling
+pub mod Counting
+pub mod Bonding
+pub mod Flooding

@@ -11,7 +11,7 @@ use lib.Seq.{getD-set-same, getD-set-other}
 use lib.Dec.{eqb, ltb}
 use borrow.Author.Tests.{eqb-true, eqb-false, ne-eqb, ltb-true}
 use Rattle.sets.specs.Bits.{has, with, put}
-use Rattle.sets.specs.Bond.{bits, room}
+use Rattle.sets.specs.Bond.{bits, room, noBonds}
 use Rattle.sets.specs.declared.bond.BondSet.{BondSet}
 use Rattle.sets.proofs.Machine.{put-below}
 use Rattle.sets.proofs.Laws.{has-with, empty}
@@ -20,22 +20,26 @@ use Rattle.definitions.specs.Search.{setOf}
 use Rattle.definitions.specs.Table.{Table, bonds, tail, head, meets?, maxAtoms, refusal}
 use Rattle.definitions.proofs.Tests.{by, eqb-self}
 use Rattle.definitions.proofs.Lists.{has-setOf, setOf-skip, setOf-take}
-use Rattle.definitions.proofs.Refusals.{Valid, accepted}
+use Rattle.definitions.proofs.Refusals.{EvenBytes, FewBonds, AllInside, Valid, accepted}
 use Rattle.table.specs.Ends.{bondsAlone, Fitting}
-use Rattle.table.specs.Row.{rowOf, none}
+use Rattle.table.specs.Row.{rowOf}
 
--- an accepted table has at most 64 bonds, each between atoms below 64
-pub valid-fitting : {M : Table} → Valid M → Fitting (M .bytes)
-valid-fitting {M} v = record { few = v .few-bonds; ends = ends }
+-- a table whose bonds name atoms below the count has at most 64 bonds, each between atoms below 64
+pub inside-fitting : {M : Table} → EvenBytes M → M .atoms ≤ maxAtoms → FewBonds M → AllInside M → Fitting (M .bytes)
+inside-fitting {M} even few-atoms few-bonds inside = record { few = few-bonds; ends = ends }
   where
     ends : (i : ℕ) → i < length (M .bytes) → getD (M .bytes) i 0 < maxAtoms
     ends i h =
-        let at = v .inside (i / 2) (omega (arith, v .even)) in
+        let at = inside (i / 2) (omega arith) in
         by (eqb (i % 2) 0)
-        (λ e. let q : 2 * (i / 2) ≡ i = omega (arith, eqb-true (i % 2) 0 e) in omega (arith, v .few-atoms, at .0, ap (λ (j : ℕ). getD (M .bytes) j 0) q))
-        (λ e. let q : 2 * (i / 2) + 1 ≡ i = omega (arith, eqb-false (i % 2) 0 e) in omega (arith, v .few-atoms, at .1, ap (λ (j : ℕ). getD (M .bytes) j 0) q))
+        (λ e. let q : 2 * (i / 2) ≡ i = omega (arith, eqb-true (i % 2) 0 e) in omega (arith, at .0, ap (λ (j : ℕ). getD (M .bytes) j 0) q))
+        (λ e. let q : 2 * (i / 2) + 1 ≡ i = omega (arith, eqb-false (i % 2) 0 e) in omega (arith, at .1, ap (λ (j : ℕ). getD (M .bytes) j 0) q))
 
--- the same of a table that the check accepts
+-- so has a valid one
+pub valid-fitting : {M : Table} → Valid M → Fitting (M .bytes)
+valid-fitting v = inside-fitting (v .even) (v .few-atoms) (v .few-bonds) (v .inside)
+
+-- and one that the check accepts
 pub accepted-fitting : (M : Table) → refusal M ≡ 0 → Fitting (M .bytes)
 accepted-fitting M e = valid-fitting (accepted M .0 e)
 
@@ -60,15 +64,15 @@ row-outside {M} v a h =
 pub record Rowed (bs : List ℕ) (rows : List BondSet) (k : ℕ) : Type 0 where
   pub within : k ≤ length bs / 2
   pub long : length rows ≡ maxAtoms
-  pub row : (a : ℕ) → a < maxAtoms → bits (getD rows a none) ≡ setOf k (meets? (bondsAlone bs) a)
+  pub row : (a : ℕ) → a < maxAtoms → bits (getD rows a noBonds) ≡ setOf k (meets? (bondsAlone bs) a)
 
 -- before the first bond the rows are empty
-pub rowed-none : (bs : List ℕ) (rows : List BondSet) → length rows ≡ maxAtoms → ((a : ℕ) → a < maxAtoms → getD rows a none ≡ none) → Rowed bs rows 0
+pub rowed-none : (bs : List ℕ) (rows : List BondSet) → length rows ≡ maxAtoms → ((a : ℕ) → a < maxAtoms → getD rows a noBonds ≡ noBonds) → Rowed bs rows 0
 unfolding setOf
 rowed-none bs rows long empty = record { within = omega arith; long = long; row = λ a h. ap bits (empty a h) }
 
 -- after the last bond each row holds all bonds that meet its atom
-pub rowed-all : {bs : List ℕ} {rows : List BondSet} {k : ℕ} → Rowed bs rows k → length bs / 2 ≤ k → (a : ℕ) → a < maxAtoms → bits (getD rows a none) ≡ rowOf (bondsAlone bs) a
+pub rowed-all : {bs : List ℕ} {rows : List BondSet} {k : ℕ} → Rowed bs rows k → length bs / 2 ≤ k → (a : ℕ) → a < maxAtoms → bits (getD rows a noBonds) ≡ rowOf (bondsAlone bs) a
 rowed-all {bs} t l a h = t .row a h ∙ ap (λ (i : ℕ). setOf i (meets? (bondsAlone bs) a)) (le-antisymm (t .within) l)
 
 -- a row and bond k, where bond k is added
@@ -86,23 +90,23 @@ setOf-more : (p : ℕ → Bool) (k : ℕ) → and-bond k (setOf k p) (p k) ≡ s
 setOf-more p k = by (p k) (λ e. rw e (sym (setOf-take p k (sym e) refl))) (λ e. rw e (sym (setOf-skip p k (sym e) refl)))
 
 -- bond k is added to the row of i, as x
-added : (rows : List BondSet) (k i : ℕ) (x : BondSet) → k < room → i < length rows → bits x ≡ put room (bits (getD rows i none)) k
-    → (a : ℕ) → bits (getD (set rows i x) a none) ≡ and-bond k (bits (getD rows a none)) (eqb i a)
+added : (rows : List BondSet) (k i : ℕ) (x : BondSet) → k < room → i < length rows → bits x ≡ put room (bits (getD rows i noBonds)) k
+    → (a : ℕ) → bits (getD (set rows i x) a noBonds) ≡ and-bond k (bits (getD rows a noBonds)) (eqb i a)
 added rows k i x below inside e a =
     by (eqb i a)
-    (λ t. rw (t, ← eqb-true i a t, getD-set-same rows i x none inside) (e ∙ put-below room (bits (getD rows i none)) k below))
-    (λ t. rw (t, getD-set-other rows i a x none (λ q. eqb-false i a t (sym q))))
+    (λ t. rw (t, ← eqb-true i a t, getD-set-same rows i x noBonds inside) (e ∙ put-below room (bits (getD rows i noBonds)) k below))
+    (λ t. rw (t, getD-set-other rows i a x noBonds (λ q. eqb-false i a t (sym q))))
 
 -- bond k is added to the row of i, as x, and then to that of j, as y
 module _ {bs : List ℕ} {rows : List BondSet} {k : ℕ} (t : Rowed bs rows k) (f : Fitting bs) (l : k < length bs / 2)
     {i j : ℕ} {x y : BondSet} (ei : i ≡ getD bs (2 * k) 0) (ej : j ≡ getD bs (2 * k + 1) 0) (hi : i < maxAtoms) (hj : j < maxAtoms)
-    (ex : bits x ≡ put room (bits (getD rows i none)) k) (ey : bits y ≡ put room (bits (getD (set rows i x) j none)) k) where
+    (ex : bits x ≡ put room (bits (getD rows i noBonds)) k) (ey : bits y ≡ put room (bits (getD (set rows i x) j noBonds)) k) where
   -- a row changes where it is that of one of the two
-  both : (a : ℕ) → bits (getD (set (set rows i x) j y) a none) ≡ and-bond k (bits (getD rows a none)) (eqb i a || eqb j a)
+  both : (a : ℕ) → bits (getD (set (set rows i x) j y) a noBonds) ≡ and-bond k (bits (getD rows a noBonds)) (eqb i a || eqb j a)
   both a =
       added (set rows i x) k j y (omega (arith, f .few)) (simp length-set (omega (arith, t .long))) ey a
       ∙ ap (λ (s : ℕ). and-bond k s (eqb j a)) (added rows k i x (omega (arith, f .few)) (omega (arith, t .long)) ex a)
-      ∙ and-bond-twice k (bits (getD rows a none)) (eqb i a) (eqb j a)
+      ∙ and-bond-twice k (bits (getD rows a noBonds)) (eqb i a) (eqb j a)
 
   -- so each row holds the bonds up to k that meet its atom
   pub rowed-more : Rowed bs (set (set rows i x) j y) (k + 1)

@@ -5,10 +5,14 @@ use mathlib.Core.Bool.{Bool, true, false}
 use Prim.Native.Nat.{_%_}
 use native.Mathlib.Omega.{arith}
 use lib.ListN.{length, drop}
-use borrow.Author.Tests.{ne-eqb, le-ltb}
+use lib.Dec.{leb}
+use borrow.Author.Tests.{ne-eqb, le-ltb, leb-false}
 use Rattle.definitions.specs.Search.{some?}
-use Rattle.definitions.specs.Table.{Table, bonds, maxAtoms, maxBonds, badEnd?, selfBond?, seenBefore?, END, SELF, TWICE, tableTests, firstOf, refusal}
+use Rattle.definitions.specs.Table.{Table, bonds, tail, head, maxAtoms, maxBonds, badEnd?, selfBond?, seenBefore?, END, SELF, TWICE, tableTests, firstOf, refusal}
+use Rattle.definitions.proofs.Tests.{or-neither, none-at}
 use Rattle.definitions.proofs.Refusals.{EvenBytes, GoodCount, FewBonds}
+use Rattle.table.specs.Ends.{Fitting}
+use Rattle.table.proofs.Meeting.{inside-fitting}
 
 module _ (M : Table) (numbers : EvenBytes M × GoodCount M × FewBonds M) where
   -- what is left of the refusals
@@ -27,6 +31,13 @@ module _ (M : Table) (numbers : EvenBytes M × GoodCount M × FewBonds M) where
     pub told-end : ends ≡ true → END ≡ refusal M
     unfolding firstOf
     told-end h = rw (left, sym ends-told ∙ h)
+
+    -- where none does the bytes fit
+    pub told-fitting : ends ≡ false → Fitting (M .bytes)
+    told-fitting h =
+        inside-fitting (numbers .0) (numbers .1 .1) (numbers .2) (λ k l.
+        let inside = or-neither (leb (M .atoms) (tail M k)) (leb (M .atoms) (head M k)) (none-at (bonds M) (badEnd? M) (sym ends-told ∙ h) k l) in
+        (leb-false (M .atoms) (tail M k) (inside .0), leb-false (M .atoms) (head M k) (inside .1)))
 
     module _ (inside : ends ≡ false) {selfs : Bool} (selfs-told : selfs ≡ some? (bonds M) (selfBond? M)) where
       -- some bond joins an atom to itself

@@ -1,22 +1,25 @@
--- The fragments of the bonds tried so far: a list that leads each atom to itself or to a lower atom of its fragment.
+-- The fragments of a table: atoms that bonds join, also through others. Each is known by its first atom.
 -- Assumes nothing.
-use mathlib.Core.Path.{_≡_}
-use mathlib.Core.List.{List}
-use Prim.Native.Nat.{ℕ, _≤_, _<_}
+use mathlib.Core.Bool.{Bool, _&&_, _||_}
+use Prim.Native.Nat.{ℕ}
 use lib.ListN.{getD}
-use Rattle.definitions.specs.Table.{maxAtoms}
+use lib.Dec.{eqb}
+use Rattle.definitions.specs.Search.{some?, count}
+use Rattle.definitions.specs.Table.{Table, bonds, tail, head}
+use Rattle.definitions.specs.Basis.{fragments}
 
--- no atom leads to a higher one
-abbrev pub Falling : List ℕ → Type 0
-Falling lower = (a : ℕ) → a < maxAtoms → getD lower a 0 ≤ a
+-- bond k joins a and b, either way round
+abbrev pub joins? : Table → ℕ → ℕ → ℕ → Bool
+joins? M a b k = (eqb (tail M k) a && eqb (head M k) b) || (eqb (head M k) a && eqb (tail M k) b)
 
--- of n atoms each leads to one of its own number, and one that leads to itself has itself for its number
-pub record Leads (n : ℕ) (lower numbers : List ℕ) : Type 0 where
-  pub together : (a : ℕ) → a < n → getD numbers (getD lower a 0) 0 ≡ getD numbers a 0
-  pub own : (a : ℕ) → a < n → getD lower a 0 ≡ a → getD numbers a 0 ≡ a
+-- some bond joins a and b
+abbrev pub bonded? : Table → ℕ → ℕ → Bool
+bonded? M a b = some? (bonds M) (joins? M a b)
 
--- r is where an atom leads at last: its number, in every numbering
-pub record First (lower : List ℕ) (atom r : ℕ) : Type 0 where
-  pub low : r ≤ atom
-  pub last : getD lower r 0 ≡ r
-  pub number : (n : ℕ) (numbers : List ℕ) → atom < n → Leads n lower numbers → r ≡ getD numbers atom 0
+-- a is the first atom of its fragment
+abbrev pub first? : Table → ℕ → Bool
+first? M a = eqb (getD (fragments M (bonds M)) a 0) a
+
+-- how many fragments there are
+unfoldable pub fragmentCount : Table → ℕ
+fragmentCount M = count (M .atoms) (first? M)

@@ -1,14 +1,9 @@
 -- "Each atom has a row of the bonds that meet it, and all rows are kept together."
 -- Assumes nothing.
 use Prim.Native.Nat.{ℕ}
-use Rattle.sets.specs.declared.bond.BondSet.{BondSet}
 use Rattle.definitions.specs.Search.{setOf}
 use Rattle.definitions.specs.Table.{Table, bonds, meets?}
 
 -- the row of atom a
 abbrev pub rowOf : Table → ℕ → ℕ
 rowOf M a = setOf (bonds M) (meets? M a)
-
--- the empty row
-abbrev pub none : BondSet
-none = record { 0 = 0 }

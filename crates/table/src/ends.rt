@@ -6,7 +6,7 @@ ghost use Rattle.definitions.specs.Table.{maxAtoms};
 ghost use Rattle.table.specs.Ends.{Fitting};
 
 // The atom that byte i names.
-pub(crate) fn end_at(bonds: &[u8], i: usize) -> usize
+pub fn end_at(bonds: &[u8], i: usize) -> usize
     requires { ⌜ Fitting (now bonds) × (i < length (now bonds)) ⌝ }
     ensures { λ r. ⌜ (r ≡ getD (now (bonds .entry)) i 0) × (r < maxAtoms) ⌝ }
 {

@@ -1,8 +1,8 @@
-// The check of a connection table, an atom count and two bytes a bond, and what the steps above take from an accepted one: its
-// ring closure bonds and the rows of its atoms.
+// The check of a connection table, an atom count and two bytes a bond, and what the steps above take from an accepted one: the
+// ends of its bonds and the rows of its atoms.
 mod answer;
-mod closure;
 mod ends;
+mod fragment;
 mod limits;
 mod refusal;
 mod row;
@@ -16,7 +16,8 @@ pub use answer::ROOM;
 pub use answer::SELF;
 pub use answer::TANGLED;
 pub use answer::TWICE;
-pub use closure::closure_bonds;
+pub use ends::end_at;
+use fragment::fragments_of;
 pub use limits::MAX_ATOMS;
 pub use limits::MAX_BONDS;
 pub use refusal::refusal_of;
@@ -38,6 +39,6 @@ pub fn check(atoms: u64, bonds: &[u8]) -> Answer
     }
     Answer {
         number: 0,
-        count: closure_bonds(atoms, bonds).size(),
+        count: bonds.len() / 2 + fragments_of(atoms, bonds) - atoms as usize,
     }
 }

@@ -1,12 +1,15 @@
 // The refusals 1 to 6 of a table, each tried over the whole table before the next.
 use super::answer;
+use super::ends::end_at;
 use super::limits;
+use super::row;
 ghost use mathlib.Core.Path.{_≡_};
+ghost use mathlib.Core.Bool.{false};
 ghost use Prim.Native.Nat.{_/_, _<_};
 ghost use lib.ListN.{length};
 ghost use Rattle.definitions.specs.Search.{some?};
 ghost use Rattle.definitions.specs.Table as spec;
-ghost use Rattle.table.specs.Ends.{bondsAlone};
+ghost use Rattle.table.specs.Ends.{bondsAlone, Fitting};
 
 // Does bond k name an atom not below the count?
 fn bad_end(atoms: u64, bonds: &[u8], k: usize) -> bool
@@ -52,40 +55,17 @@ fn any_self_bond(bonds: &[u8]) -> bool
     false
 }
 
-// Have bonds k and j the same two atoms, either way round?
-fn alike(bonds: &[u8], k: usize, j: usize) -> bool
-    requires { ⌜ (k < length (now bonds) / 2) × (j < length (now bonds) / 2) ⌝ }
-    ensures { λ r. ⌜ r ≡ spec.alike? (bondsAlone (now (bonds .entry))) k j ⌝ }
-{
-    let a = bonds[2 * k];
-    let b = bonds[2 * k + 1];
-    let x = bonds[2 * j];
-    let y = bonds[2 * j + 1];
-    (a == x) & (b == y) | (a == y) & (b == x)
-}
-
-// Has a bond before k the two atoms of bond k?
-fn seen_before(bonds: &[u8], k: usize) -> bool
-    requires { ⌜ k < length (now bonds) / 2 ⌝ }
-    ensures { λ r. ⌜ r ≡ spec.seenBefore? (bondsAlone (now (bonds .entry))) k ⌝ }
-{
-    let mut j: usize = 0;
-    while j < k {
-        if alike(bonds, k, j) {
-            return true;
-        }
-        j += 1;
-    }
-    false
-}
-
-// Is some pair of atoms bonded twice?
+// Is some pair of atoms bonded twice? Then the rows of a bond's two atoms share another bond.
 fn any_twice(bonds: &[u8]) -> bool
+    requires { ⌜ Fitting (now bonds) × (some? (length (now bonds) / 2) (spec.selfBond? (bondsAlone (now bonds))) ≡ false) ⌝ }
     ensures { λ r. ⌜ r ≡ some? (length (now (bonds .entry)) / 2) (spec.seenBefore? (bondsAlone (now (bonds .entry)))) ⌝ }
 {
+    let rows = row::rows(bonds);
     let mut k: usize = 0;
     while k < bonds.len() / 2 {
-        if seen_before(bonds, k) {
+        let a = end_at(bonds, 2 * k);
+        let b = end_at(bonds, 2 * k + 1);
+        if rows[a].without(k).meets(rows[b]) {
             return true;
         }
         k += 1;

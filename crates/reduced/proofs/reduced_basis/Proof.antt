@@ -17,26 +17,26 @@ basis-of-requires : tie.Need-basis-of-requires
 basis-of-requires c κs = search needs
 
 returns-2 : tie.Need-returns-2
-returns-2 c = is-short _ _ (c .before .before .before .before .refusal-of .ensures) (omega arith) (reducedBasis-counted _ (c .before .before .basis-of .ensures .count)) (c .if2 .taken)
+returns-2 c = is-short _ _ (c .before .before .before .refusal-of .ensures) (omega arith) (reducedBasis-counted _ (c .before .basis-of .ensures .count)) (c .if2 .taken)
 
 assemblies-of-requires : tie.Need-assemblies-of-requires
 assemblies-of-requires c κs = search needs
 
 reduce-all-requires : tie.Need-reduce-all-requires
 reduce-all-requires c κs =
-    let basis = c .before .before .before .before .before .basis-of in
-    let parts = c .before .before .assemblies-of in
-    picked-fits (basis .ensures) (parts .ensures) (c .before .before .before .before .before .before .before .before .before .before .args .out .now) (omega arith)
+    let parts = c .before .before .before .before .before in
+    let basis = parts .before .before in
+    picked-fits (basis .basis-of .ensures) (parts .assemblies-of .ensures) (basis .before .before .before .before .before .args .out .now) (omega arith)
 
 same-length : tie.Need-same-length
 same-length c = search needs
 
 returns-3 : tie.Need-returns-3
 returns-3 c =
-    let basis = c .before .before .before .before .before .before .before .before .basis-of in
-    let parts = c .before .before .before .before .before .assemblies-of in
-    is-full _ _ (c .before .before .before .before .before .before .before .before .before .before .refusal-of .ensures) (omega arith) (reducedBasis-counted _ (basis .ensures .count)) (omega arith)
-    (picked-reduced (basis .ensures) (parts .ensures) _ (c .before .before .reduce-all .ensures))
+    let parts = c .before .before .before .before .before .before .before .before in
+    let basis = parts .before .before in
+    is-full _ _ (basis .before .before .refusal-of .ensures) (omega arith) (reducedBasis-counted _ (basis .basis-of .ensures .count)) (omega arith)
+    (picked-reduced (basis .basis-of .ensures) (parts .assemblies-of .ensures) _ (c .before .before .reduce-all .ensures))
 
 pub reduced-basis-spec : {M : Type 1} → statement M
 reduced-basis-spec =

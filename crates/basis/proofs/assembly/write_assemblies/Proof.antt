@@ -9,21 +9,20 @@ use Rattle.definitions.specs.Assembly.{assembliesOf}
 use Rattle.definitions.proofs.Linking.{length-assemblies}
 use Rattle.table.proofs.Filling.{Written, written-none, written-length, written-room, written-more, written-all}
 use Rattle.basis.specs.Held.{ringsOf}
-use Rattle.basis.proofs.Replacing.{length-mapped}
 use Rattle.basis.proofs.Holding.{rings-counted}
 use Rattle.basis.proofs.Numbering.{assembly-found}
 use Rattle.basis.proofs.assembly.write_assemblies.Statement.{statement}
 use Rattle.basis.proofs.assembly.write_assemblies.Tie as tie
 
 abbrev Inv-loop : tie.InvT-loop
-Inv-loop basis assemblies out₀ i₀ out i = Written (assembliesOf (ringsOf basis)) out₀ out i
+Inv-loop basis out₀ assemblies i₀ out i = Written (assembliesOf (ringsOf basis)) out₀ out i
 
 abbrev μ-loop : tie.MeasureT-loop
-μ-loop basis assemblies out₀ i₀ out i = basis .count - i
+μ-loop basis out₀ assemblies i₀ out i = basis .count - i
 
 -- the basis holds as many rings as it counts, and each has an assembly
 counted : (c : tie.Start Inv-loop μ-loop) → length (ringsOf (c .args .basis)) ≡ c .args .basis .count
-counted c = rings-counted (c .args .basis) (search (needs, length-mapped)) (c .pre .0)
+counted c = rings-counted (c .args .basis) (search needs) (c .pre .0)
 
 numbered : (c : tie.Start Inv-loop μ-loop) → length (assembliesOf (ringsOf (c .args .basis))) ≡ c .args .basis .count
 numbered c = length-assemblies (ringsOf (c .args .basis)) ∙ counted c
@@ -32,13 +31,13 @@ loop-holds : tie.Need-loop-holds Inv-loop μ-loop
 loop-holds c = written-none _ _ (c .before .pre .2)
 
 assembly-with-requires : tie.Need-assembly-with-requires Inv-loop μ-loop
-assembly-with-requires c κs = c .before .before .before .before .pre .1 .counted
+assembly-with-requires c κs = c .before .before .before .before .before .before .pre .1 .counted
 
 cast-out : tie.Need-cast-out Inv-loop μ-loop
-cast-out c = omega (arith, c .assembly-with .ensures .within, c .before .before .before .before .before .pre .1 .counted)
+cast-out c = omega (arith, c .assembly-with .ensures .within, c .before .before .before .before .before .before .before .pre .1 .counted)
 
 slice-write-out : tie.Need-slice-write-out Inv-loop μ-loop
-slice-write-out c = let at = c .before .before .before in written-room (at .loop .inv) (omega (arith, numbered (at .before .before)))
+slice-write-out c = let at = c .before .before .before .before .before in written-room (at .loop .inv) (omega (arith, numbered (at .before .before)))
 
 add-i : tie.Need-add-i Inv-loop μ-loop
 add-i c = search needs
@@ -48,7 +47,7 @@ loop-less c = omega arith
 
 loop-again : tie.Need-loop-again Inv-loop μ-loop
 loop-again c =
-    let at = c .before .before .before in
+    let at = c .before .before .before .before .before in
     let start = at .before .before in
     written-more (at .loop .inv) (omega (arith, numbered start)) (assembly-found (start .pre .1) (omega (arith, counted start)) (c .assembly-with .ensures))
 

@@ -7,7 +7,6 @@ use native.Mathlib.Omega.{arith}
 use borrow.Author.Needs.{needs}
 use Rattle.table.proofs.Filling.{Written, written-none, written-length, written-room, written-more, written-all}
 use Rattle.basis.specs.Held.{ringsOf}
-use Rattle.basis.proofs.Replacing.{length-mapped}
 use Rattle.basis.proofs.Holding.{rings-counted, ring-at}
 use Rattle.basis.proofs.basis.write_rings.Statement.{statement}
 use Rattle.basis.proofs.basis.write_rings.Tie as tie
@@ -20,19 +19,19 @@ abbrev μ-loop : tie.MeasureT-loop
 
 -- the basis holds as many rings as it counts
 counted : (c : tie.Start Inv-loop μ-loop) → length (ringsOf (c .args .t1)) ≡ c .args .t1 .count
-counted c = rings-counted (c .args .t1) (search (needs, length-mapped)) (c .pre .0)
+counted c = rings-counted (c .args .t1) (search needs) (c .pre .0)
 
 loop-holds : tie.Need-loop-holds Inv-loop μ-loop
 loop-holds c = written-none _ _ (c .pre .1)
 
-mul-ring : tie.Need-mul-ring Inv-loop μ-loop
-mul-ring c = search needs
-
-element-copy-out-ring : tie.Need-element-copy-out-ring Inv-loop μ-loop
-element-copy-out-ring c = omega (arith, c .before .before .pre .0)
-
 mul-out : tie.Need-mul-out Inv-loop μ-loop
 mul-out c = search needs
+
+element-copy-out-out : tie.Need-element-copy-out-out Inv-loop μ-loop
+element-copy-out-out c = omega (arith, c .before .before .pre .0)
+
+mul-out-2 : tie.Need-mul-out-2 Inv-loop μ-loop
+mul-out-2 c = search needs
 
 slice-write-out : tie.Need-slice-write-out Inv-loop μ-loop
 slice-write-out c = let at = c .before .before in written-room (at .loop .inv) (omega (arith, counted (at .before)))
@@ -61,9 +60,9 @@ write-rings-spec =
     Inv-loop
     μ-loop
     loop-holds
-    mul-ring
-    element-copy-out-ring
     mul-out
+    element-copy-out-out
+    mul-out-2
     slice-write-out
     add-i
     loop-less

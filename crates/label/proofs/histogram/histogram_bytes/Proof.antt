@@ -2,20 +2,19 @@
 -- Assumes nothing.
 use Prim.Native.Nat.{_-_}
 use native.Mathlib.Omega.{arith}
-use Rattle.label.specs.Sizes.{allSizes}
 use Rattle.label.proofs.Counting.{Measured, measured-none, measured-more, measured-all}
 use borrow.Author.Needs.{needs}
 use Rattle.label.proofs.histogram.histogram_bytes.Statement.{statement}
 use Rattle.label.proofs.histogram.histogram_bytes.Tie as tie
 
 abbrev Inv-loop : tie.InvT-loop
-Inv-loop width counts bytes₀ size₀ bytes size = Measured width counts bytes size
+Inv-loop width counts top bytes₀ size₀ bytes size = Measured width counts top bytes size
 
 abbrev μ-loop : tie.MeasureT-loop
-μ-loop width counts bytes₀ size₀ bytes size = allSizes - size
+μ-loop width counts top bytes₀ size₀ bytes size = top - size
 
 loop-holds : tie.Need-loop-holds Inv-loop μ-loop
-loop-holds c = measured-none _ _
+loop-holds c = measured-none _ _ _
 
 mul-line-bytes : tie.Need-mul-line-bytes Inv-loop μ-loop
 mul-line-bytes c = search needs
@@ -39,7 +38,7 @@ loop-again : tie.Need-loop-again Inv-loop μ-loop
 loop-again c = measured-more (c .before .before .before .loop .inv) (omega arith) (c .line-bytes .ensures .0 _) (c .line-bytes .ensures .1)
 
 returns : tie.Need-returns Inv-loop μ-loop
-returns c = (measured-all (c .before .loop .inv) (omega arith), omega (arith, c .before .loop .inv .low, c .before .loop .inv .within))
+returns c = measured-all (c .before .loop .inv) (c .before .before .pre .1) (omega arith)
 
 pub histogram-bytes-spec : {M : Type 1} → statement M
 histogram-bytes-spec =

@@ -3,21 +3,21 @@
 use Prim.Native.Nat.{_-_}
 use native.Mathlib.Omega.{arith}
 use lib.ListN.{getD}
-use Rattle.label.specs.Sizes.{allSizes, line, lines}
-use Rattle.label.proofs.Appending.{Strung, strung-none, strung-more, strung-all, strung-room, strung-length}
+use Rattle.label.specs.Sizes.{line}
+use Rattle.label.proofs.Appending.{Strung, strung-none, strung-more, strung-all, strung-room, strung-length, appended-as}
+use Rattle.label.proofs.Counting.{lines-below, lines-room}
 use borrow.Author.Needs.{needs}
 use Rattle.label.proofs.histogram.put_histogram.Statement.{statement}
 use Rattle.label.proofs.histogram.put_histogram.Tie as tie
 
 abbrev Inv-loop : tie.InvT-loop
-Inv-loop width counts out₀ at next₀ size₀ out next size = Strung (λ y. line width y (getD counts y 0)) allSizes out₀ out at next size
+Inv-loop width counts top out₀ at next₀ size₀ out next size = Strung (λ y. line width y (getD counts y 0)) top out₀ out at next size
 
 abbrev μ-loop : tie.MeasureT-loop
-μ-loop width counts out₀ at next₀ size₀ out next size = allSizes - size
+μ-loop width counts top out₀ at next₀ size₀ out next size = top - size
 
 loop-holds : tie.Need-loop-holds Inv-loop μ-loop
-unfolding lines
-loop-holds c = strung-none _ _ _ _ (c .before .pre .1)
+loop-holds c = strung-none _ _ _ _ (lines-room _ _ (c .before .pre .1) (c .before .pre .2))
 
 mul-put-line : tie.Need-mul-put-line Inv-loop μ-loop
 mul-put-line c = search needs
@@ -41,8 +41,7 @@ same-length : tie.Need-same-length Inv-loop μ-loop
 same-length c = strung-length (c .before .loop .inv)
 
 returns : tie.Need-returns Inv-loop μ-loop
-unfolding lines
-returns c = strung-all (c .before .loop .inv) (omega arith)
+returns c = appended-as (lines-below _ (c .before .before .before .pre .1)) (strung-all (c .before .loop .inv) (omega arith))
 
 pub put-histogram-spec : {M : Type 1} → statement M
 put-histogram-spec =

@@ -31,7 +31,7 @@ Left s rest out at = Begun (first s ++ (rings s ++ (smallest s ++ pairs s))) (s 
 
 at-start : (s : tie.Start) → Left s (first s ++ (rings s ++ (smallest s ++ pairs s))) (s .args .out .now) 0
 unfolding labelText
-at-start s = begun-none _ _ (s .pre .1)
+at-start s = begun-none _ _ (s .pre .3)
 
 -- the start of the function, seen from after each call
 abbrev start₁ : tie.After-put-number-field → tie.Start
@@ -50,16 +50,16 @@ after-first c =
     begun-more (first s) (rings s ++ (smallest s ++ pairs s)) (at-start s) (c .put-number-field .kept .1 .1 .1 .1 .0) (c .put-number-field .ensures)
 
 after-rings : (c : tie.After-put-size-field)
-    → let s = start₂ c in Left s (smallest s ++ pairs s) (c .put-size-field .last .1 .1 .1 .0) (c .put-size-field .result)
+    → let s = start₂ c in Left s (smallest s ++ pairs s) (c .put-size-field .last .1 .1 .1 .1 .0) (c .put-size-field .result)
 after-rings c =
     let s = start₂ c in
-    begun-more (rings s) (smallest s ++ pairs s) (after-first (c .before .before .before .before)) (c .put-size-field .kept .1 .1 .1 .0) (c .put-size-field .ensures)
+    begun-more (rings s) (smallest s ++ pairs s) (after-first (c .before .before .before .before)) (c .put-size-field .kept .1 .1 .1 .1 .0) (c .put-size-field .ensures)
 
 after-smallest : (c : tie.After-put-size-field2)
-    → let s = start₃ c in Left s (pairs s) (c .put-size-field2 .last .1 .1 .1 .0) (c .put-size-field2 .result)
+    → let s = start₃ c in Left s (pairs s) (c .put-size-field2 .last .1 .1 .1 .1 .0) (c .put-size-field2 .result)
 after-smallest c =
     let s = start₃ c in
-    begun-more (smallest s) (pairs s) (after-rings (c .before .before .before .before)) (c .put-size-field2 .kept .1 .1 .1 .0) (c .put-size-field2 .ensures)
+    begun-more (smallest s) (pairs s) (after-rings (c .before .before .before .before)) (c .put-size-field2 .kept .1 .1 .1 .1 .0) (c .put-size-field2 .ensures)
 
 slice-aggregate-put-number-field : tie.Need-slice-aggregate-put-number-field
 slice-aggregate-put-number-field c = search needs
@@ -73,18 +73,18 @@ put-size-field-requires : tie.Need-put-size-field-requires
 put-size-field-requires c κs =
     let p = c .before .before .before in
     let s = start₁ p in
-    (omega arith, begun-room (rings s) (smallest s ++ pairs s) (after-first p))
+    (omega arith, s .pre .0, begun-room (rings s) (smallest s ++ pairs s) (after-first p))
 
 put-size-field-requires-2 : tie.Need-put-size-field-requires-2
 put-size-field-requires-2 c κs =
     let p = c .before .before .before in
     let s = start₂ p in
-    (omega arith, begun-room (smallest s) (pairs s) (after-rings p))
+    (omega arith, s .pre .1, begun-room (smallest s) (pairs s) (after-rings p))
 
 put-number-field-requires-2 : tie.Need-put-number-field-requires-2
 put-number-field-requires-2 c κs =
     let p = c .before .before .before in
-    (omega arith, start₃ p .pre .0, after-smallest p .room)
+    (omega arith, start₃ p .pre .2, after-smallest p .room)
 
 same-length : tie.Need-same-length
 same-length c = search needs

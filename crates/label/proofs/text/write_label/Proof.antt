@@ -21,17 +21,14 @@ text s = labelText (s .args .number) (s .args .rings .now) (s .args .smallest .n
 
 -- the count is its length
 counted : (c : tie.After-histogram-bytes2)
-    → 13 + (c .before .histogram-bytes .result + c .histogram-bytes2 .result) + 2 * start c .args .n ≡ length (text (start c))
-counted c = label-bytes _ _ _ _ (c .before .histogram-bytes .ensures .0) (c .histogram-bytes2 .ensures .0) (start c .pre)
+    → 13 + c .before .histogram-bytes .result + c .histogram-bytes2 .result + 2 * start c .args .n ≡ length (text (start c))
+counted c = label-bytes _ _ _ _ (c .before .histogram-bytes .ensures .0) (c .histogram-bytes2 .ensures .0) (start c .pre .2)
 
 histogram-bytes-requires : tie.Need-histogram-bytes-requires
 histogram-bytes-requires c κs = search needs
 
 histogram-bytes-requires-2 : tie.Need-histogram-bytes-requires-2
 histogram-bytes-requires-2 c κs = search needs
-
-add-sizes : tie.Need-add-sizes
-add-sizes c = search needs
 
 mul-count : tie.Need-mul-count
 mul-count c = search needs
@@ -42,17 +39,20 @@ add-count c = search needs
 add-count-2 : tie.Need-add-count-2
 add-count-2 c = search needs
 
+add-count-3 : tie.Need-add-count-3
+add-count-3 c = search needs
+
 mul-count-2 : tie.Need-mul-count-2
 mul-count-2 c = search needs
 
-add-count-3 : tie.Need-add-count-3
-add-count-3 c = search needs
+add-count-4 : tie.Need-add-count-4
+add-count-4 c = search needs
 
 returns : tie.Need-returns
 returns c = let p = c .before in is-short (text (start p)) (start p .args .out .now) {c = 0} refl (omega arith) (counted p) (omega arith)
 
 put-label-requires : tie.Need-put-label-requires
-put-label-requires c κs = let p = c .before .before in (start p .pre, omega (arith, counted p))
+put-label-requires c κs = let p = c .before .before in (start p .pre .0, start p .pre .1, start p .pre .2, omega (arith, counted p))
 
 same-length : tie.Need-same-length
 same-length c = search needs
@@ -68,12 +68,12 @@ write-label-spec =
     (tie.spec
     histogram-bytes-requires
     histogram-bytes-requires-2
-    add-sizes
     mul-count
     add-count
     add-count-2
-    mul-count-2
     add-count-3
+    mul-count-2
+    add-count-4
     returns
     put-label-requires
     same-length

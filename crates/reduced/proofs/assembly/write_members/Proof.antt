@@ -2,19 +2,19 @@
 use mathlib.Core.Path.{refl}
 use Prim.Native.Nat.{_-_}
 use native.Mathlib.Omega.{arith}
+use lib.ListN.{getD}
 use Rattle.sets.specs.Ring.{bits, room}
 use Rattle.sets.proofs.Upto.{next-rises}
-use Rattle.reduced.specs.Picked.{ringAt}
 use Rattle.reduced.proofs.Picking.{Picking, picking-none, picking-length, picking-room, picking-more, picking-all}
 use borrow.Author.Needs.{needs}
 use Rattle.reduced.proofs.assembly.write_members.Statement.{statement}
 use Rattle.reduced.proofs.assembly.write_members.Tie as tie
 
 abbrev Inv-loop : tie.InvT-loop
-Inv-loop members out₀ rings n₀ i₀ out n i = Picking room (bits members) (ringAt rings) out₀ out n i
+Inv-loop rings members out₀ n₀ i₀ out n i = Picking room (bits members) (λ k. getD rings k 0) out₀ out n i
 
 abbrev μ-loop : tie.MeasureT-loop
-μ-loop members out₀ rings n₀ i₀ out n i = room - i
+μ-loop rings members out₀ n₀ i₀ out n i = room - i
 
 next-requires : tie.Need-next-requires Inv-loop μ-loop
 next-requires c κs = search needs
@@ -29,13 +29,13 @@ element-copy-out-out : tie.Need-element-copy-out-out Inv-loop μ-loop
 element-copy-out-out c = search needs
 
 mul-out-2 : tie.Need-mul-out-2 Inv-loop μ-loop
-mul-out-2 c = omega (arith, picking-room (c .before .loop .inv) (omega arith), picking-length (c .before .loop .inv))
+mul-out-2 c = omega (arith, picking-room (c .before .before .loop .inv) (omega arith), picking-length (c .before .before .loop .inv))
 
 slice-write-out : tie.Need-slice-write-out Inv-loop μ-loop
-slice-write-out c = picking-room (c .before .loop .inv) (omega arith)
+slice-write-out c = picking-room (c .before .before .loop .inv) (omega arith)
 
 add-n : tie.Need-add-n Inv-loop μ-loop
-add-n c = omega (arith, picking-room (c .before .loop .inv) (omega arith), picking-length (c .before .loop .inv))
+add-n c = omega (arith, picking-room (c .before .before .loop .inv) (omega arith), picking-length (c .before .before .loop .inv))
 
 add-next : tie.Need-add-next Inv-loop μ-loop
 add-next c = search needs
@@ -47,7 +47,7 @@ loop-less : tie.Need-loop-less Inv-loop μ-loop
 loop-less c = omega (arith, next-rises room _ _ _ (omega arith) (c .next2 .ensures))
 
 loop-again : tie.Need-loop-again Inv-loop μ-loop
-loop-again c = picking-more (c .before .before .loop .inv) (omega arith) refl (c .next2 .ensures)
+loop-again c = picking-more (c .before .before .before .loop .inv) (omega arith) refl (c .next2 .ensures)
 
 same-length : tie.Need-same-length Inv-loop μ-loop
 same-length c = picking-length (c .before .loop .inv)

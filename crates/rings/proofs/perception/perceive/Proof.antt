@@ -1,6 +1,6 @@
--- The refusals are tried in order, and then the rings of all assemblies are worked out. Assumes nothing.
+-- The refusals are tried in order, and then the sums are counted. Assumes nothing.
 use native.Mathlib.Omega.{arith}
-use Rattle.rings.proofs.Perceiving.{perceives-refused, perceives-tangled, perceives-combinable, perceives-all}
+use Rattle.rings.proofs.Perceiving.{untangled-small, perceives-refused, perceives-tangled, perceives-all}
 use borrow.Author.Needs.{needs}
 use Rattle.rings.proofs.perception.perceive.Statement.{statement}
 use Rattle.rings.proofs.perception.perceive.Tie as tie
@@ -31,15 +31,13 @@ returns-2 c =
     let at = c .before .before .before in
     perceives-tangled (at .before .before .before .refusal-of .ensures) (omega arith) (at .before .basis-of .ensures) (at .assemblies-of .ensures) (c .before .before .tangled .ensures) (c .before .if2 .taken) (c .refused2 .ensures)
 
-combine-requires : tie.Need-combine-requires
-combine-requires c κs =
-    let at = c .before .before .before in
-    perceives-combinable (at .before .before .before .refusal-of .ensures) (omega arith) (at .before .basis-of .ensures) (at .assemblies-of .ensures) (c .before .before .tangled .ensures) (c .before .if2 .left) (at .before .before .before .before .before .pre)
+most-of-requires : tie.Need-most-of-requires
+most-of-requires c κs = untangled-small (c .before .before .assemblies-of .ensures) (c .before .tangled .ensures) (c .if2 .left)
 
 returns-3 : tie.Need-returns-3
 returns-3 c =
-    let at = c .before .before .before .before in
-    perceives-all (at .before .before .before .refusal-of .ensures) (omega arith) (at .before .basis-of .ensures) (at .assemblies-of .ensures) (c .before .before .before .tangled .ensures) (c .before .before .if2 .left) (c .combine .ensures)
+    let at = c .before .before .before in
+    perceives-all (at .before .before .before .refusal-of .ensures) (omega arith) (at .before .basis-of .ensures) (at .assemblies-of .ensures) (c .before .before .tangled .ensures) (c .before .if2 .left) (c .most-of .ensures)
 
 pub perceive-spec : {M : Type 1} → statement M
 perceive-spec =
@@ -53,5 +51,5 @@ perceive-spec =
     tangled-requires
     refused-requires-2
     returns-2
-    combine-requires
+    most-of-requires
     returns-3)

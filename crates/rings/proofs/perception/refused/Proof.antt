@@ -6,7 +6,7 @@ use Rattle.rings.proofs.perception.refused.Statement.{statement}
 use Rattle.rings.proofs.perception.refused.Tie as tie
 
 returns : tie.Need-returns
-returns c = record { number = refl; count = refl; blank = all-blank maxBonds maxBonds }
+returns c = record { number = refl; most = refl; blank = all-blank maxBonds maxBonds }
 
 pub refused-spec : {M : Type 1} → statement M
 refused-spec = tie.close (tie.spec returns)

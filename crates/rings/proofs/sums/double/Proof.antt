@@ -12,13 +12,13 @@ abbrev μ-loop : tie.MeasureT-loop
 μ-loop sums₀ half ring j₀ sums j = half - j
 
 loop-holds : tie.Need-loop-holds Inv-loop μ-loop
-loop-holds c = doubling-none _ _ _ (c .pre .0) (c .pre .1)
+loop-holds c = doubling-none _ _ _ (c .before .pre)
 
 mul-of-word : tie.Need-mul-of-word Inv-loop μ-loop
 mul-of-word c = search needs
 
-element-copy-out-of-word : tie.Need-element-copy-out-of-word Inv-loop μ-loop
-element-copy-out-of-word c = search needs
+slice-read-of-word : tie.Need-slice-read-of-word Inv-loop μ-loop
+slice-read-of-word c = search needs
 
 of-word-requires : tie.Need-of-word-requires Inv-loop μ-loop
 of-word-requires c κs = search needs
@@ -32,8 +32,8 @@ add-sums c = search needs
 mul-sums : tie.Need-mul-sums Inv-loop μ-loop
 mul-sums c = search needs
 
-element-write-sums : tie.Need-element-write-sums Inv-loop μ-loop
-element-write-sums c = search needs
+slice-write-sums : tie.Need-slice-write-sums Inv-loop μ-loop
+slice-write-sums c = search needs
 
 add-j : tie.Need-add-j Inv-loop μ-loop
 add-j c = search needs
@@ -43,6 +43,9 @@ loop-less c = search needs
 
 loop-again : tie.Need-loop-again Inv-loop μ-loop
 loop-again c = doubling-more (c .before .before .before .before .loop .inv) (c .before .before .before .loop-test .taken) (c .before .of-word .ensures) (c .sum .ensures)
+
+same-length : tie.Need-same-length Inv-loop μ-loop
+same-length c = search needs
 
 returns : tie.Need-returns Inv-loop μ-loop
 returns c = doubling-all (c .before .loop .inv) (c .loop-test .left)
@@ -55,13 +58,14 @@ double-spec =
     μ-loop
     loop-holds
     mul-of-word
-    element-copy-out-of-word
+    slice-read-of-word
     of-word-requires
     sum-requires
     add-sums
     mul-sums
-    element-write-sums
+    slice-write-sums
     add-j
     loop-less
     loop-again
+    same-length
     returns)

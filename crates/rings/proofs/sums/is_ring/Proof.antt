@@ -1,61 +1,46 @@
--- The sum is compared with each set of its group; where the old set has bonds and shares none with the ring, the ring splits it. Assumes nothing.
-use Prim.Native.Nat.{_+_, _-_}
-use Rattle.rings.proofs.Combining.{Unsplit, unsplit-none, unsplit-more, unsplit-broken, unsplit-all, crossing-none}
+-- The sum is compared with each of the rings found. Assumes nothing.
+use Prim.Native.Nat.{_-_}
 use native.Mathlib.Omega.{arith}
+use Rattle.rings.proofs.Combining.{Tested, tested-none, tested-more, tested-broken, tested-all}
 use borrow.Author.Needs.{needs}
 use Rattle.rings.proofs.sums.is_ring.Statement.{statement}
 use Rattle.rings.proofs.sums.is_ring.Tie as tie
 
 abbrev Inv-loop : tie.InvT-loop
-Inv-loop sums half sum j₀ j = Unsplit sums half (sum .0) j
+Inv-loop found from to sum i₀ i = Tested found from to (sum .0) i
 
 abbrev μ-loop : tie.MeasureT-loop
-μ-loop sums half sum j₀ j = half + half - j
-
-sum-requires : tie.Need-sum-requires Inv-loop μ-loop
-sum-requires c κs = search needs
-
-meets-requires : tie.Need-meets-requires Inv-loop μ-loop
-meets-requires c κs = search needs
-
-returns : tie.Need-returns Inv-loop μ-loop
-returns c = crossing-none (c .before .before .before .before .pre) (c .before .before .before .before .args .old .0) (c .before .meets .ensures) (c .if1 .taken)
+μ-loop found from to sum i₀ i = to - i
 
 loop-holds : tie.Need-loop-holds Inv-loop μ-loop
-loop-holds c = unsplit-none _ _ _
-
-add-loop : tie.Need-add-loop Inv-loop μ-loop
-add-loop c = search needs
+loop-holds c = tested-none _ (c .before .pre)
 
 mul-of-word : tie.Need-mul-of-word Inv-loop μ-loop
 mul-of-word c = search needs
 
-element-copy-out-of-word : tie.Need-element-copy-out-of-word Inv-loop μ-loop
-element-copy-out-of-word c = search needs
+shared-slice-read-of-word : tie.Need-shared-slice-read-of-word Inv-loop μ-loop
+shared-slice-read-of-word c = search needs
 
 of-word-requires : tie.Need-of-word-requires Inv-loop μ-loop
 of-word-requires c κs = search needs
 
-splits-requires : tie.Need-splits-requires Inv-loop μ-loop
-splits-requires c κs = search needs
+inside-requires : tie.Need-inside-requires Inv-loop μ-loop
+inside-requires c κs = search needs
 
-returns-2 : tie.Need-returns-2 Inv-loop μ-loop
-returns-2 c =
-    unsplit-broken (c .before .before .before .before .before .before .before .before .before .before .pre) (c .before .before .before .before .before .loop .inv) (c .before .before .before .before .before .before .before .before .before .sum .ensures)
-    (omega arith) (c .before .before .of-word .ensures) (c .before .splits .ensures) (c .if2 .taken)
+returns : tie.Need-returns Inv-loop μ-loop
+returns c = tested-broken (c .before .before .before .before .before .loop .inv) (omega arith) (c .before .before .of-word .ensures) (c .before .inside .ensures) (c .if1 .taken)
 
-add-j : tie.Need-add-j Inv-loop μ-loop
-add-j c = search needs
+add-i : tie.Need-add-i Inv-loop μ-loop
+add-i c = search needs
 
 loop-less : tie.Need-loop-less Inv-loop μ-loop
 loop-less c = search needs
 
 loop-again : tie.Need-loop-again Inv-loop μ-loop
-loop-again c =
-    unsplit-more (c .before .before .before .before .before .loop .inv) (omega arith) (c .before .before .of-word .ensures) (c .before .splits .ensures) (c .if2 .left)
+loop-again c = tested-more (c .before .before .before .before .before .loop .inv) (omega arith) (c .before .before .of-word .ensures) (c .before .inside .ensures) (c .if1 .left)
 
-returns-3 : tie.Need-returns-3 Inv-loop μ-loop
-returns-3 c = unsplit-all (c .before .before .before .before .before .before .pre) (c .before .loop .inv) (c .before .before .before .before .before .sum .ensures) (omega arith)
+returns-2 : tie.Need-returns-2 Inv-loop μ-loop
+returns-2 c = tested-all (c .before .loop .inv) (c .loop-test .left)
 
 pub is-ring-spec : {M : Type 1} → statement M
 is-ring-spec =
@@ -63,17 +48,13 @@ is-ring-spec =
     (tie.spec
     Inv-loop
     μ-loop
-    sum-requires
-    meets-requires
-    returns
     loop-holds
-    add-loop
     mul-of-word
-    element-copy-out-of-word
+    shared-slice-read-of-word
     of-word-requires
-    splits-requires
-    returns-2
-    add-j
+    inside-requires
+    returns
+    add-i
     loop-less
     loop-again
-    returns-3)
+    returns-2)

@@ -1,12 +1,12 @@
 -- At each return the tests made so far have failed but the last: 1 to 3 are tests on numbers, and the laws of `Tried` tell the others.
 -- Assumes nothing.
-use mathlib.Core.Path.{sym}
+use mathlib.Core.Path.{sym, _∙_}
 use mathlib.Core.Logic.{inl, inr}
 use native.Mathlib.Omega.{arith}
 use borrow.Author.Needs.{needs}
 use Rattle.definitions.specs.Table.{seenBefore?}
 use Rattle.definitions.proofs.Refusals.{refused-odd, refused-atoms, refused-bonds}
-use Rattle.table.proofs.Tried.{told-end, told-self, told-twice, told-accepted}
+use Rattle.table.proofs.Tried.{told-end, told-fitting, told-self, told-twice, told-accepted}
 use Rattle.table.proofs.refusal.refusal_of.Statement.{statement}
 use Rattle.table.proofs.refusal.refusal_of.Tie as tie
 
@@ -37,7 +37,9 @@ returns-6 c =
     told-self _ (omega arith) (ends .before .any-bad-end .ensures) (ends .if5 .left) (c .before .any-self-bond .ensures) (c .if6 .taken)
 
 any-twice-requires : tie.Need-any-twice-requires
-any-twice-requires c κs = search needs
+any-twice-requires c κs =
+    let ends = c .before .before in
+    (told-fitting _ (omega arith) (ends .before .any-bad-end .ensures) (ends .if5 .left), sym (c .before .any-self-bond .ensures) ∙ c .if6 .left)
 
 returns-7 : tie.Need-returns-7
 unfolding seenBefore?

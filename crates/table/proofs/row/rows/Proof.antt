@@ -4,8 +4,8 @@ use mathlib.Core.Path.{refl}
 use Prim.Native.Nat.{_/_, _-_}
 use native.Mathlib.Omega.{arith}
 use lib.ListN.{length, getD-replicate}
+use Rattle.sets.specs.Bond.{noBonds}
 use Rattle.definitions.specs.Table.{maxAtoms}
-use Rattle.table.specs.Row.{none}
 use Rattle.table.proofs.Meeting.{Rowed, rowed-none, rowed-more, rowed-all}
 use borrow.Author.Needs.{needs}
 use Rattle.table.proofs.row.rows.Statement.{statement}
@@ -18,7 +18,7 @@ abbrev μ-loop : tie.MeasureT-loop
 μ-loop bonds rows₀ k₀ rows k = length bonds / 2 - k
 
 loop-holds : tie.Need-loop-holds Inv-loop μ-loop
-loop-holds c = rowed-none _ _ refl (λ a h. getD-replicate maxAtoms a none none h)
+loop-holds c = rowed-none _ _ refl (λ a h. getD-replicate maxAtoms a noBonds noBonds h)
 
 mul-loop : tie.Need-mul-loop Inv-loop μ-loop
 mul-loop c = search needs

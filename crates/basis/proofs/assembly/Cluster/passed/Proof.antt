@@ -1,22 +1,24 @@
 -- Before each turn the rings left below i share no bond with the cluster, or the pass has added a ring.
 -- Assumes nothing.
-use Prim.Native.Nat.{_-_}
+use mathlib.Core.Path.{sym, _∙_}
+use Prim.Native.Nat.{_-_, _<_}
 use native.Mathlib.Omega.{arith}
+use lib.ListN.{take}
+use lib.Seq.{getD-take}
+use denote.Ref.{now}
 use borrow.Author.Needs.{needs}
 use Rattle.sets.proofs.Upto.{next-rises}
 use Rattle.definitions.specs.Table.{maxBonds}
-use Rattle.basis.specs.Held.{ringsOf}
 use Rattle.basis.specs.Clusters.{groupOf}
 use Rattle.basis.proofs.Grouping.{Passing, passing-none, passing-turn, passing-all}
-use Rattle.basis.proofs.Holding.{ring-at}
 use Rattle.basis.proofs.assembly.Cluster.passed.Statement.{statement}
 use Rattle.basis.proofs.assembly.Cluster.passed.Tie as tie
 
 abbrev Inv-loop : tie.InvT-loop
-Inv-loop basis cluster₀ i₀ cluster i = Passing (ringsOf basis) (groupOf cluster₀) (groupOf cluster) i
+Inv-loop rings count cluster₀ i₀ cluster i = Passing (take count rings) (groupOf cluster₀) (groupOf cluster) i
 
 abbrev μ-loop : tie.MeasureT-loop
-μ-loop basis cluster₀ i₀ cluster i = maxBonds - i
+μ-loop rings count cluster₀ i₀ cluster i = maxBonds - i
 
 next-requires : tie.Need-next-requires Inv-loop μ-loop
 next-requires c κs = search needs
@@ -24,11 +26,14 @@ next-requires c κs = search needs
 loop-holds : tie.Need-loop-holds Inv-loop μ-loop
 loop-holds c = passing-none _ _ (c .next .ensures)
 
-mul-ring : tie.Need-mul-ring Inv-loop μ-loop
-mul-ring c = search needs
+mul-of-word : tie.Need-mul-of-word Inv-loop μ-loop
+mul-of-word c = search needs
 
-element-copy-out-ring : tie.Need-element-copy-out-ring Inv-loop μ-loop
-element-copy-out-ring c = search needs
+element-copy-out-of-word : tie.Need-element-copy-out-of-word Inv-loop μ-loop
+element-copy-out-of-word c = search needs
+
+of-word-requires : tie.Need-of-word-requires Inv-loop μ-loop
+of-word-requires c κs = search needs
 
 joined-requires : tie.Need-joined-requires Inv-loop μ-loop
 joined-requires c κs = search needs
@@ -41,23 +46,20 @@ next-requires-2 c κs = search needs
 
 loop-less : tie.Need-loop-less Inv-loop μ-loop
 loop-less c =
-    let at = c .before .before .before .before in
-    let taken = c .before .before .before .loop-test .taken in
-    omega (arith, next-rises maxBonds _ (at .loop .i) _ taken (c .next2 .ensures), c .next2 .ensures .within)
+    let turn = c .before .before .before .before in
+    let low : turn .before .loop .i < maxBonds = omega (arith, turn .before .before .before .pre .0, turn .loop-test .taken) in
+    omega (arith, next-rises maxBonds _ (turn .before .loop .i) _ low (c .next2 .ensures), c .next2 .ensures .within)
 
 loop-again : tie.Need-loop-again Inv-loop μ-loop
 loop-again c =
-    let at = c .before .before .before .before in
+    let turn = c .before .before .before .before in
+    let at = turn .before in
     let start = at .before .before in
-    let taken = c .before .before .before .loop-test .taken in
-    let there = at .loop .inv .fewer (at .loop .i) (at .loop .inv .next taken) in
-    let ring = ring-at (start .args .t2) (at .loop .i) (start .pre .1 (at .loop .i) there) in
-    passing-turn (at .loop .inv) taken ring (c .before .joined .ensures) (c .next2 .ensures)
+    let ring = c .before .before .of-word .ensures ∙ sym (getD-take (start .args .count) (now (start .args .rings)) (at .loop .i) 0 (turn .loop-test .taken)) in
+    passing-turn (at .loop .inv) (omega (arith, start .pre .0, turn .loop-test .taken)) ring (c .before .joined .ensures) (c .next2 .ensures)
 
 returns : tie.Need-returns Inv-loop μ-loop
-returns c =
-    let start = c .before .before .before in
-    passing-all (λ j e. omega (arith, start .pre .0, start .pre .1 j e)) (c .loop-test .left) (c .before .loop .inv)
+returns c = passing-all (c .before .before .before .pre .1) (c .loop-test .left) (c .before .loop .inv)
 
 pub passed-spec : {M : Type 1} → statement M
 passed-spec =
@@ -67,8 +69,9 @@ passed-spec =
     μ-loop
     next-requires
     loop-holds
-    mul-ring
-    element-copy-out-ring
+    mul-of-word
+    element-copy-out-of-word
+    of-word-requires
     joined-requires
     add-next
     next-requires-2
