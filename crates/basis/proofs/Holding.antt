@@ -6,7 +6,7 @@ use mathlib.Core.List.{List}
 use Prim.Native.Nat.{ℕ, _<_}
 use native.Mathlib.Omega.{arith}
 use borrow.Author.Tests.{lt-ltb, le-ltb}
-use lib.Dec.{eqb, ltb}
+use lib.Dec.{eqb}
 use lib.ListN.{length, getD}
 use lib.Seq.{length-take-le, getD-take}
 use Rattle.sets.specs.Bits.{has, size}
@@ -39,10 +39,6 @@ held-assemblies h = ap assembliesOf (h .rings)
 pub assemblies-counted : {M : Table} {b : Basis} → BasisOf M b → b .count ≡ length (assemblies M)
 unfolding assemblies
 assemblies-counted {M} h = h .count ∙ sym (length-assemblies (basisRings M))
-
--- ring i is in the set of assembly a where a is the number of its assembly
-pub members-has : {rs : List ℕ} {s : Assemblies} → AssembliesOf rs s → (a i : ℕ) → a < s .count → has (membersOf s a) i ≡ ltb i (length rs) && eqb (number rs i) a
-members-has {rs} h a i l = ap (λ (t : ℕ). has t i) (h .members a l) ∙ has-setOf (length rs) (λ j. eqb (number rs j) a) i
 
 -- the set of an assembly has as many rings as the assembly
 pub members-size : {rs : List ℕ} {s : Assemblies} → AssembliesOf rs s → (a : ℕ) → a < s .count → size (membersOf s a) ≡ length (ringsIn rs a)

@@ -95,23 +95,26 @@ fn rings_below(count: usize) -> RingSet
     rings
 }
 
-// The assemblies of basis rings.
-pub fn assemblies_of(basis: Basis) -> Assemblies
-    requires { ⌜ Counted basis ⌝ }
-    ensures { λ r. ⌜ AssembliesOf (ringsOf basis) r ⌝ }
+// The assemblies of the first basis rings of a list.
+pub fn assemblies_of(rings: &[u64; MAX_BONDS], count: usize) -> Assemblies
+    requires { ⌜ (length (now rings) ≡ maxBonds) × (count ≤ maxBonds) ⌝ }
+    ensures { λ r. ⌜ AssembliesOf (take count (now (rings .entry))) r ⌝ }
 {
     let mut members = [0u64; MAX_BONDS];
-    let mut count: usize = 0;
-    let mut left = rings_below(basis.count);
+    let mut assemblies: usize = 0;
+    let mut left = rings_below(count);
     let mut first = left.next(0);
     while first < MAX_BONDS {
-        let cluster = cluster_of(&basis.rings, basis.count, first, left);
-        members[count] = cluster.members.0;
-        count += 1;
+        let cluster = cluster_of(rings, count, first, left);
+        members[assemblies] = cluster.members.0;
+        assemblies += 1;
         left = cluster.left;
         first = left.next(0);
     }
-    Assemblies { members, count }
+    Assemblies {
+        members,
+        count: assemblies,
+    }
 }
 
 // The first assembly that has basis ring i, or the number of assemblies where there is none.

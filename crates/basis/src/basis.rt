@@ -8,11 +8,8 @@ use table::MAX_ATOMS;
 use table::MAX_BONDS;
 use table::end_at;
 ghost use mathlib.Core.Path.{_≡_};
-ghost use Prim.Native.Nat.{_≤_};
-ghost use lib.ListN.{length};
 ghost use Rattle.definitions.specs.Table.{table, refusal};
-ghost use Rattle.definitions.specs.Answer.{over};
-ghost use Rattle.basis.specs.Held.{ringsOf, Counted, BasisOf};
+ghost use Rattle.basis.specs.Held.{BasisOf};
 
 // The basis rings of a table in order of closure bonds: the first count words, each the word of a set, so that they can be lent.
 pub struct Basis {
@@ -48,16 +45,4 @@ pub fn basis_of(atoms: u64, bonds: &[u8]) -> Basis
         k += 1;
     }
     Basis { rings, count }
-}
-
-// Writes the basis rings over the start of a list.
-pub(crate) fn write_rings(basis: Basis, out: &mut [u64])
-    requires { ⌜ Counted basis × (length (ringsOf basis) ≤ length (now out)) ⌝ }
-    ensures { λ _. ⌜ now (out .exit) ≡ over (ringsOf basis) (now (out .entry)) ⌝ }
-{
-    let mut i: usize = 0;
-    while i < basis.count {
-        out[i] = basis.rings[i];
-        i += 1;
-    }
 }

@@ -8,9 +8,9 @@ pub use assembly::assemblies_of;
 use assembly::write_assemblies;
 pub use basis::Basis;
 pub use basis::basis_of;
-use basis::write_rings;
 use table::Answer;
 use table::ROOM;
+use table::write_words;
 ghost use mathlib.Core.Path.{_≡_};
 ghost use Rattle.definitions.specs.Table.{table, refusal};
 ghost use Rattle.definitions.specs.Basis.{basisRings};
@@ -26,15 +26,7 @@ pub fn basis_rings(atoms: u64, bonds: &[u8], out: &mut [u64]) -> Answer
         return Answer { number, count: 0 };
     }
     let basis = basis_of(atoms, bonds);
-    let count = basis.count;
-    if out.len() < count {
-        return Answer {
-            number: ROOM,
-            count: 0,
-        };
-    }
-    write_rings(basis, out);
-    Answer { number: 0, count }
+    write_words(&basis.rings, basis.count, out)
 }
 
 // The assemblies: for each basis ring the number of its assembly, in one byte.
@@ -53,7 +45,7 @@ pub fn assemblies(atoms: u64, bonds: &[u8], out: &mut [u8]) -> Answer
             count: 0,
         };
     }
-    write_assemblies(basis, assemblies_of(basis), out);
+    write_assemblies(basis, assemblies_of(&basis.rings, rings), out);
     Answer {
         number: 0,
         count: rings,

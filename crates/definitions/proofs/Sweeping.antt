@@ -63,45 +63,38 @@ exchanges? l J I =
     let swap = ltb (size x) (size i) in
     swap || ltb (size (cond swap i x)) (size j)
 
--- an exchange that changes something lowers the total
-pub exchange-lowers : (l : List ℕ) (J I : ℕ) → J < I → I < length l → exchanges? l J I ≡ true → weight (exchange l J I) < weight l
-unfolding exchange exchanges?
-exchange-lowers l J I h k e = go (ltb (size x) (size i)) refl (ltb (size (cond (ltb (size x) (size i)) i x)) (size j)) refl e
-  where
-    j : ℕ
-    j = getD l J 0
+module _ (l : List ℕ) (J I : ℕ) where
+  -- the one set, the other and their sum
+  abbrev j : ℕ
+  j = getD l J 0
 
-    i : ℕ
-    i = getD l I 0
+  abbrev i : ℕ
+  i = getD l I 0
 
-    x : ℕ
-    x = bitXor j i
+  abbrev x : ℕ
+  x = bitXor j i
 
-    go : (s : Bool) → ltb (size x) (size i) ≡ s → (t : Bool) → ltb (size (cond s i x)) (size j) ≡ t → s || t ≡ true
-        → weight (set (set l I (cond s x i)) J (cond t (cond s i x) j)) < weight l
-    go true p true q e = omega (arith, weight-both l J I x i h k, ltb-true (size x) (size i) p, ltb-true (size i) (size j) q)
-    go true p false q e = omega (arith, weight-both l J I x j h k, ltb-true (size x) (size i) p)
-    go false p true q e = omega (arith, weight-both l J I i x h k, ltb-true (size x) (size j) q)
-    go false p false q e = absurd (false≢true e)
+  -- an exchange that changes something lowers the total
+  pub exchange-lowers : J < I → I < length l → exchanges? l J I ≡ true → weight (exchange l J I) < weight l
+  unfolding exchange exchanges?
+  exchange-lowers h k e = go (ltb (size x) (size i)) refl (ltb (size (cond (ltb (size x) (size i)) i x)) (size j)) refl e
+    where
+      go : (s : Bool) → ltb (size x) (size i) ≡ s → (t : Bool) → ltb (size (cond s i x)) (size j) ≡ t → s || t ≡ true
+          → weight (set (set l I (cond s x i)) J (cond t (cond s i x) j)) < weight l
+      go true p true q e = omega (arith, weight-both l J I x i h k, ltb-true (size x) (size i) p, ltb-true (size i) (size j) q)
+      go true p false q e = omega (arith, weight-both l J I x j h k, ltb-true (size x) (size i) p)
+      go false p true q e = omega (arith, weight-both l J I i x h k, ltb-true (size x) (size j) q)
+      go false p false q e = absurd (false≢true e)
 
--- one that changes nothing leaves the list
-pub exchange-stays : (l : List ℕ) (J I : ℕ) → exchanges? l J I ≡ false → exchange l J I ≡ l
-unfolding exchange exchanges?
-exchange-stays l J I e = go (ltb (size x) (size i)) (ltb (size (cond (ltb (size x) (size i)) i x)) (size j)) e
-  where
-    j : ℕ
-    j = getD l J 0
-
-    i : ℕ
-    i = getD l I 0
-
-    x : ℕ
-    x = bitXor j i
-
-    go : (s t : Bool) → s || t ≡ false → set (set l I (cond s x i)) J (cond t (cond s i x) j) ≡ l
-    go true t e = absurd (true≢false e)
-    go false true e = absurd (true≢false e)
-    go false false e = ap (λ (m : List ℕ). set m J j) (set-getD l I 0) ∙ set-getD l J 0
+  -- one that changes nothing leaves the list
+  pub exchange-stays : exchanges? l J I ≡ false → exchange l J I ≡ l
+  unfolding exchange exchanges?
+  exchange-stays e = go (ltb (size x) (size i)) (ltb (size (cond (ltb (size x) (size i)) i x)) (size j)) e
+    where
+      go : (s t : Bool) → s || t ≡ false → set (set l I (cond s x i)) J (cond t (cond s i x) j) ≡ l
+      go true t e = absurd (true≢false e)
+      go false true e = absurd (true≢false e)
+      go false false e = ap (λ (m : List ℕ). set m J j) (set-getD l I 0) ∙ set-getD l J 0
 
 -- an exchange changes nothing or lowers the total
 pub exchange-falls : (l : List ℕ) (J I : ℕ) → J < I → I < length l → Falls l (exchange l J I)

@@ -1,7 +1,7 @@
 -- The answer of a step below, which was lent a list of its own with room enough: its number is the refusal, and where that is 0 the list
 -- begins with the items wanted. The answers of this crate are made of it.
 -- Assumes nothing.
-use mathlib.Core.Path.{_≡_, refl, sym, ap, ap₂, _∙_}
+use mathlib.Core.Path.{_≡_, refl, sym, ap, _∙_}
 use mathlib.Core.List.{List}
 use Prim.Native.Nat.{ℕ, zero, suc, _<_, _≤_}
 use native.Mathlib.Omega.{arith}
@@ -14,7 +14,7 @@ use Rattle.definitions.specs.Reduced.{reducedBasis}
 use Rattle.definitions.specs.Answer.{Outcome, outcomeOf, over, outcome}
 use Rattle.definitions.proofs.Lists.{count-le, length-listed}
 use Rattle.definitions.proofs.Refusals.{accepted}
-use Rattle.table.proofs.Answers.{is-refused, is-full}
+use Rattle.table.proofs.Answers.{is-refused, is-accepted, is-full}
 use Rattle.reduced.proofs.Assembled.{reducedBasis-counted}
 
 -- ---- an outcome with room enough
@@ -83,6 +83,5 @@ module _ (M : Table) (lent : List ℕ) {number count : ℕ} {sets : List ℕ} (l
   pub sidecar-written : number ≤ 0 → {o : Outcome} → o ≡ outcome 0 (field sidecarTag (bytesOfAll setBytes (take count sets))) out → o ≡ outcome (refusal M) (sidecarOf M) out
   unfolding sidecarOf
   sidecar-written h e =
-      e
-      ∙ ap₂ (λ (c : ℕ) (l : List ℕ). outcome c (field sidecarTag (bytesOfAll setBytes l)) out) (let z : 0 ≡ refusal M = omega (arith, given-number (reducedBasis M) lent room given) in z)
-      (given-list (reducedBasis M) lent room given h)
+      is-accepted (sidecarOf M) out (given-number (reducedBasis M) lent room given) h
+      (ap (λ (l : List ℕ). field sidecarTag (bytesOfAll setBytes l)) (given-list (reducedBasis M) lent room given h)) e

@@ -1,6 +1,6 @@
 -- The label's text, made of what the steps below work out, is the table's label.
 -- Assumes nothing.
-use mathlib.Core.Path.{_≡_, ap, ap₂, _∙_}
+use mathlib.Core.Path.{_≡_, sym, ap, ap₂, _∙_}
 use mathlib.Core.List.{List, [], _∷_}
 use Prim.Native.Nat.{ℕ, _+_, _*_, _<_, _≤_}
 use native.Mathlib.Nat.{mod-eq-of-lt}
@@ -13,24 +13,21 @@ use Rattle.definitions.specs.Table.{Table}
 use Rattle.definitions.specs.Assembly.{assemblyCount, ringsIn}
 use Rattle.definitions.specs.AllRings.{before}
 use Rattle.definitions.specs.Smallest.{taking}
-use Rattle.definitions.specs.Label.{bytesOf, bytesOfAll, histogram, frerejacque, pairOf, assemblyPairs, labelOf}
+use Rattle.definitions.specs.Label.{bytesOf, bytesOfAll, frerejacque, pairOf, assemblyPairs, labelOf}
 use Rattle.definitions.specs.Answer.{Outcome, outcomeOf, outcome, refusalOfRings}
 use Rattle.definitions.proofs.Lists.{gather-ext}
+use Rattle.definitions.proofs.Sorting.{occurs-made}
 use Rattle.definitions.proofs.Refusals.{Valid}
 use Rattle.table.proofs.Answers.{is-refused}
 use Rattle.basis.specs.Held.{ringsOf, BasisOf, membersOf}
 use Rattle.basis.specs.declared.basis.Basis.{Basis}
 use Rattle.basis.specs.declared.assembly.Assemblies.{Assemblies}
 use Rattle.basis.proofs.Holding.{members-size, picked-rings}
-use Rattle.rings.specs.Found.{Ordered}
-use Rattle.rings.specs.Gibbs.{foundIn, allCombined}
+use Rattle.rings.specs.Gibbs.{foundIn}
 use Rattle.rings.specs.Sizes.{SizesOf}
-use Rattle.rings.specs.Elimination.{Selected}
 use Rattle.rings.specs.Perceiving.{Combinable, Perceives}
-use Rattle.rings.specs.declared.sizes.Sizes.{Sizes}
 use Rattle.rings.specs.declared.perception.Perceived.{Perceived}
-use Rattle.rings.proofs.Perceiving.{ordered-all, perceived, perceived-valid, perceived-rings, perceived-smallest, perceived-combinable, perceived-outcome}
-use Rattle.label.specs.Sizes.{lines}
+use Rattle.rings.proofs.Perceiving.{found-all, perceived, perceived-valid, perceived-rings, perceived-smallest, perceived-combinable, perceived-outcome}
 use Rattle.label.specs.Pairs.{pairNamed, pairsNamed}
 use Rattle.label.specs.Text.{labelText, labelWith}
 use Rattle.label.proofs.Counting.{lines-histogram}
@@ -59,25 +56,19 @@ assembly-pairs M {b} {s} basis c =
 
 -- ---- the label
 
--- what is counted of the rings in order and of those taken is written as their text
-pub label-counted : {b : Basis} {s : Assemblies} {start ordered lent taken : List ℕ} (pairs : List ℕ) {named : List ℕ} (number : ℕ) {count n : ℕ} {rings smallest : Sizes} (out : List ℕ) {o : Outcome}
-    → Combinable b s → Ordered (foundIn (b .rings) (s .members) (s .count)) start ordered count
-    → SizesOf (take count ordered) rings → Selected (take count ordered) lent taken n → SizesOf (take n taken) smallest → take (s .count) pairs ≡ named
-    → o ≡ outcome 0 (labelText number (rings .counts) (smallest .counts) (take (s .count) pairs)) out → o ≡ outcome 0 (labelWith number (sort before (allCombined (ringsOf b))) named) out
+-- the counts of a list of rings are those of the list in order
+sizes-sorted : {l counts : List ℕ} {top : ℕ} → SizesOf l counts top → SizesOf (sort before l) counts top
+sizes-sorted {l} t = record { long = t .long; told = λ z h. t .told z h ∙ sym (occurs-made before size z l); within = t .within; none = t .none }
+
+-- what is counted of rings and of those taken is written as their text
+pub label-counted : (l pairs : List ℕ) {named : List ℕ} (number n : ℕ) {top : ℕ} {all smallest : List ℕ} (out : List ℕ) {o : Outcome}
+    → SizesOf l all top → SizesOf (taking [] (sort before l)) smallest top → take n pairs ≡ named
+    → o ≡ outcome 0 (labelText number all smallest (take n pairs)) out → o ≡ outcome 0 (labelWith number (sort before l) named) out
 unfolding labelText labelWith
-label-counted {b} {s} pairs {named} number {rings = rings} {smallest} out c placed told chosen few q w = w ∙ ap (λ (l : List ℕ). outcome 0 l out) text
+label-counted l pairs {named} number n {all = all} {smallest} out told few q w = w ∙ ap (λ (m : List ℕ). outcome 0 m out) text
   where
-    found : List ℕ
-    found = sort before (allCombined (ringsOf b))
-
-    all : lines 2 (rings .counts) ≡ histogram 2 found
-    all = lines-histogram told 2 ∙ ap (histogram 2) (ordered-all c placed .list)
-
-    least : lines 1 (smallest .counts) ≡ histogram 1 (taking [] found)
-    least = lines-histogram few 1 ∙ ap (histogram 1) (chosen .list ∙ ap (taking []) (ordered-all c placed .list))
-
-    text : labelText number (rings .counts) (smallest .counts) (take (s .count) pairs) ≡ labelWith number found named
-    text = rw (all, least, q)
+    text : labelText number all smallest (take n pairs) ≡ labelWith number (sort before l) named
+    text = rw (lines-histogram (sizes-sorted told) 2, lines-histogram few 1, q)
 
 module _ {M : Table} {p : Perceived} (seen : Perceives M p) where
   -- a refusal is handed on
@@ -85,11 +76,16 @@ module _ {M : Table} {p : Perceived} (seen : Perceives M p) where
   label-refused out h = is-refused (labelOf M) out (seen .number) h
 
   module _ (none : p .number ≤ 0) where
+    -- what is found in the assemblies
+    abbrev found : List ℕ
+    found = foundIn (p .basis .rings) (p .assemblies .members) (p .assemblies .count)
+
     -- the text of what is worked out of an accepted table is its label
     label-text : {number : ℕ} → number ≡ frerejacque M
-        → labelWith number (sort before (allCombined (ringsOf (p .basis)))) (pairsNamed (p .basis .rings) (p .assemblies .members) (p .assemblies .count)) ≡ labelOf M
+        → labelWith number (sort before found) (pairsNamed (p .basis .rings) (p .assemblies .members) (p .assemblies .count)) ≡ labelOf M
     unfolding labelWith labelOf
     label-text e = rw (
+      found-all (perceived-combinable seen none),
       e,
       one-byte (frerejacque M) (frerejacque-low (perceived-valid seen none)),
       perceived-smallest seen none,
@@ -99,6 +95,6 @@ module _ {M : Table} {p : Perceived} (seen : Perceives M p) where
 
     -- so what is written is the label
     pub label-written : {number : ℕ} (out : List ℕ) {o : Outcome} → number ≡ frerejacque M
-        → o ≡ outcome 0 (labelWith number (sort before (allCombined (ringsOf (p .basis)))) (pairsNamed (p .basis .rings) (p .assemblies .members) (p .assemblies .count))) out
+        → o ≡ outcome 0 (labelWith number (sort before found) (pairsNamed (p .basis .rings) (p .assemblies .members) (p .assemblies .count))) out
         → o ≡ outcome (refusalOfRings M) (labelOf M) out
     label-written out e w = perceived-outcome seen none out (label-text e) w

@@ -5,19 +5,14 @@ mod pairs;
 mod text;
 mod write;
 
-use basis::Assemblies;
-use basis::Basis;
 use pairs::write_pairs;
 use rings::FEW;
 use rings::MANY;
-use rings::MOST;
-use rings::list_rings;
+use rings::SIZES;
+use rings::count_rings;
 use rings::perceive;
-use rings::sizes_of;
-use rings::smallest_of;
 use table::Answer;
 use table::MAX_BONDS;
-use text::Tops;
 use text::write_label;
 use text::write_sidecar;
 ghost use mathlib.Core.Path.{_≡_};
@@ -27,9 +22,8 @@ ghost use Rattle.definitions.specs.Table.{table, refusal};
 ghost use Rattle.definitions.specs.AllRings.{before};
 ghost use Rattle.definitions.specs.Label as spec;
 ghost use Rattle.definitions.specs.Answer.{outcomeOf, outcome, refusalOfRings};
-ghost use Rattle.basis.specs.Held.{ringsOf};
-ghost use Rattle.rings.specs.Gibbs.{allCombined};
-ghost use Rattle.rings.specs.Perceiving.{Combinable, Roomy};
+ghost use Rattle.rings.specs.Gibbs.{foundIn};
+ghost use Rattle.rings.specs.Tally.{Separate};
 ghost use Rattle.label.specs.Pairs.{pairsNamed};
 ghost use Rattle.label.specs.Text.{labelWith};
 
@@ -41,52 +35,36 @@ fn frerejacque(atoms: u64, bonds: &[u8]) -> u64
     if more < atoms { 0 } else { more - atoms }
 }
 
-// The label of basis rings and their assemblies, all rings worked out in two lists that have room for them.
-fn label_in(
+// The label of basis rings and their assemblies, each assembly worked out in two lists that have room for it.
+fn label_in<'a>(
     number: u64,
-    basis: Basis,
-    assemblies: Assemblies,
+    rings: &'a [u64; MAX_BONDS],
+    members: &'a [u64; MAX_BONDS],
+    assemblies: usize,
     found: &mut [u64],
     ordered: &mut [u64],
     out: &mut [u8],
 ) -> Answer
-    requires { ⌜ Combinable basis assemblies × Roomy assemblies (length (now found)) × Roomy assemblies (length (now ordered)) ⌝ }
-    ensures { λ r. ⌜ outcomeOf (r .number) (r .count) (now (out .exit)) ≡ outcome 0 (labelWith number (sort before (allCombined (ringsOf basis))) (pairsNamed (basis .rings) (assemblies .members) (assemblies .count))) (now (out .entry)) ⌝ }
+    requires { ⌜ Separate (now rings) (now members) assemblies (length (now found)) × Separate (now rings) (now members) assemblies (length (now ordered)) ⌝ }
+    ensures { λ r. ⌜ outcomeOf (r .number) (r .count) (now (out .exit)) ≡ outcome 0 (labelWith number (sort before (foundIn (now (rings .entry)) (now (members .entry)) assemblies)) (pairsNamed (now (rings .entry)) (now (members .entry)) assemblies)) (now (out .entry)) ⌝ }
 {
-    let count = list_rings(
-        &basis.rings,
-        &assemblies.members,
-        assemblies.count,
+    let mut all = [0usize; SIZES];
+    let mut smallest = [0usize; SIZES];
+    let top = count_rings(
+        rings,
+        members,
+        assemblies,
         found,
         ordered,
+        &mut all,
+        &mut smallest,
     );
-    let mut taken = [0u64; MAX_BONDS];
-    let n = smallest_of(ordered, count, basis.count, &mut taken);
     let mut pairs = [0u64; MAX_BONDS];
-    write_pairs(
-        &basis.rings,
-        &assemblies.members,
-        assemblies.count,
-        &mut pairs,
-    );
-    let rings = sizes_of(ordered, count);
-    let smallest = sizes_of(&taken, n);
-    let tops = Tops {
-        rings: rings.top,
-        smallest: smallest.top,
-    };
-    write_label(
-        number,
-        &rings.counts,
-        &smallest.counts,
-        tops,
-        &pairs,
-        assemblies.count,
-        out,
-    )
+    write_pairs(rings, members, assemblies, &mut pairs);
+    write_label(number, &all, &smallest, top, &pairs, assemblies, out)
 }
 
-// The label: four fields, from the rings, the smallest basis and the assemblies.
+// The label: four fields, from the rings, the smallest basis and the assemblies, of which there are m.
 pub fn label(atoms: u64, bonds: &[u8], out: &mut [u8]) -> Answer
     ensures { λ r. ⌜ outcomeOf (r .number) (r .count) (now (out .exit)) ≡ outcome (refusalOfRings (table atoms (now (bonds .entry)))) (spec.labelOf (table atoms (now (bonds .entry)))) (now (out .entry)) ⌝ }
 {
@@ -98,21 +76,17 @@ pub fn label(atoms: u64, bonds: &[u8], out: &mut [u8]) -> Answer
         };
     }
     let number = frerejacque(atoms, bonds);
-    let basis = seen.basis;
-    let assemblies = seen.assemblies;
+    let rings = &seen.basis.rings;
+    let members = &seen.assemblies.members;
+    let m = seen.assemblies.count;
     if seen.most < FEW {
         let mut found = [0u64; FEW];
         let mut ordered = [0u64; FEW];
-        return label_in(number, basis, assemblies, &mut found, &mut ordered, out);
+        return label_in(number, rings, members, m, &mut found, &mut ordered, out);
     }
-    if seen.most < MANY {
-        let mut found = [0u64; MANY];
-        let mut ordered = [0u64; MANY];
-        return label_in(number, basis, assemblies, &mut found, &mut ordered, out);
-    }
-    let mut found = [0u64; MOST];
-    let mut ordered = [0u64; MOST];
-    label_in(number, basis, assemblies, &mut found, &mut ordered, out)
+    let mut found = [0u64; MANY];
+    let mut ordered = [0u64; MANY];
+    label_in(number, rings, members, m, &mut found, &mut ordered, out)
 }
 
 // The sidecar: one field with the reduced basis, eight bytes a set.

@@ -41,36 +41,23 @@ const PAIR: usize = 2;
 // The bytes of a set of bonds.
 const SET: usize = 8;
 
-// A size that no ring reaches, and one that no smallest ring reaches.
-pub(crate) struct Tops {
-    pub(crate) rings: usize,
-    pub(crate) smallest: usize,
-}
-
-// The four fields of the label, one after another.
+// The four fields of the label, one after another. No ring has a size of top or above.
 fn put_label(
     number: u64,
     rings: &[usize; SIZES],
     smallest: &[usize; SIZES],
-    tops: Tops,
+    top: usize,
     pairs: &[u64],
     n: usize,
     out: &mut [u8],
 )
-    requires { ⌜ NoneFrom (tops .rings) (now rings) × NoneFrom (tops .smallest) (now smallest) × (n ≤ length (now pairs)) × (length (labelText number (now rings) (now smallest) (take n (now pairs))) ≤ length (now out)) ⌝ }
+    requires { ⌜ NoneFrom top (now rings) × NoneFrom top (now smallest) × (n ≤ length (now pairs)) × (length (labelText number (now rings) (now smallest) (take n (now pairs))) ≤ length (now out)) ⌝ }
     ensures { λ _. ⌜ now (out .exit) ≡ over (labelText number (now (rings .entry)) (now (smallest .entry)) (take n (now (pairs .entry)))) (now (out .entry)) ⌝ }
 {
     let first = [number];
     let after_first = put_number_field(FREREJACQUE, 1, &first, 1, out, 0);
-    let after_rings = put_size_field(RINGS, COUNT, rings, tops.rings, out, after_first);
-    let after_smallest = put_size_field(
-        SMALLEST,
-        SMALL_COUNT,
-        smallest,
-        tops.smallest,
-        out,
-        after_rings,
-    );
+    let after_rings = put_size_field(RINGS, COUNT, rings, top, out, after_first);
+    let after_smallest = put_size_field(SMALLEST, SMALL_COUNT, smallest, top, out, after_rings);
     put_number_field(ASSEMBLIES, PAIR, pairs, n, out, after_smallest);
 }
 
@@ -79,16 +66,16 @@ pub(crate) fn write_label(
     number: u64,
     rings: &[usize; SIZES],
     smallest: &[usize; SIZES],
-    tops: Tops,
+    top: usize,
     pairs: &[u64],
     n: usize,
     out: &mut [u8],
 ) -> Answer
-    requires { ⌜ NoneFrom (tops .rings) (now rings) × NoneFrom (tops .smallest) (now smallest) × (n ≤ length (now pairs)) ⌝ }
+    requires { ⌜ NoneFrom top (now rings) × NoneFrom top (now smallest) × (n ≤ length (now pairs)) ⌝ }
     ensures { λ r. ⌜ outcomeOf (r .number) (r .count) (now (out .exit)) ≡ outcome 0 (labelText number (now (rings .entry)) (now (smallest .entry)) (take n (now (pairs .entry)))) (now (out .entry)) ⌝ }
 {
-    let rings_bytes = histogram_bytes(COUNT, rings, tops.rings);
-    let smallest_bytes = histogram_bytes(SMALL_COUNT, smallest, tops.smallest);
+    let rings_bytes = histogram_bytes(COUNT, rings, top);
+    let smallest_bytes = histogram_bytes(SMALL_COUNT, smallest, top);
     let count = 4 * HEAD + 1 + rings_bytes + smallest_bytes + PAIR * n;
     if count > out.len() {
         return Answer {
@@ -96,7 +83,7 @@ pub(crate) fn write_label(
             count: 0,
         };
     }
-    put_label(number, rings, smallest, tops, pairs, n, out);
+    put_label(number, rings, smallest, top, pairs, n, out);
     Answer { number: 0, count }
 }
 

@@ -25,7 +25,7 @@ pub fn reduced_basis(atoms: u64, bonds: &[u8], out: &mut [u64]) -> Answer
             count: 0,
         };
     }
-    let assemblies = basis::assemblies_of(basis);
+    let assemblies = basis::assemblies_of(&basis.rings, count);
     reduce_all(&basis.rings, &assemblies.members, assemblies.count, out);
     Answer { number: 0, count }
 }

@@ -10,7 +10,7 @@ use lib.Dec.{eqb, leb}
 use borrow.Author.Tests.{eqb-true, eqb-false}
 use Rattle.sets.specs.Bits.{size}
 use Rattle.definitions.specs.Table.{Table, maxBonds, refusal, TANGLED}
-use Rattle.definitions.specs.Label.{bytesOf, bytesOfAll, field, occurs, histogram, frerejacque, labelOf}
+use Rattle.definitions.specs.Label.{bytesOf, bytesOfAll, field, occurs, histogram, frerejacque, frerejacqueTag, ringsTag, smallestTag, assembliesTag, labelOf}
 use Rattle.definitions.specs.Answer.{over, outcome, refusalOfRings}
 use Rattle.definitions.proofs.Tests.{by}
 use Rattle.definitions.proofs.Lists.{gather-ext}
@@ -37,10 +37,10 @@ module _ {M N : Table} (r : Renumbered M N) (inside : InRange M) where
   pub label-same : Valid M → labelOf M ≡ labelOf N
   unfolding labelOf
   label-same v =
-      ap₂ _++_ (ap (λ (n : ℕ). field 0x01 (n ∷ [])) frerejacque-of-renumbered)
-      (ap₂ _++_ (ap (field 0x02) (histogram-same 2 _ _ (rings-of-renumbered r inside)))
-      (ap₂ _++_ (ap (field 0x03) (histogram-same 1 _ _ (sizes-of-renumbered r inside)))
-      (ap (λ l. field 0x04 (bytesOfAll 2 l)) (pairs-of-renumbered r v))))
+      ap₂ _++_ (ap (λ (n : ℕ). field frerejacqueTag (n ∷ [])) frerejacque-of-renumbered)
+      (ap₂ _++_ (ap (field ringsTag) (histogram-same 2 _ _ (rings-of-renumbered r inside)))
+      (ap₂ _++_ (ap (field smallestTag) (histogram-same 1 _ _ (sizes-of-renumbered r inside)))
+      (ap (λ l. field assembliesTag (bytesOfAll 2 l)) (pairs-of-renumbered r v))))
 
   -- the refusals agree, 7 too
   pub rings-refusal-of-renumbered : refusalOfRings M ≡ refusalOfRings N

@@ -8,9 +8,7 @@ use Prim.Native.Nat.{ℕ, zero, suc, _+_, _*_, _<_, _≤_}
 use native.Mathlib.Nat.{mul-suc}
 use native.Mathlib.Decide.{le-ind}
 use native.Mathlib.Omega.{arith}
-use lib.Dec.{eqb, ltb}
 use lib.ListN.{length, length-append}
-use borrow.Author.Tests.{eqb-true, eqb-false}
 use Rattle.sets.specs.Bits.{size}
 use Rattle.sets.proofs.Size.{size-none}
 use Rattle.sets.proofs.Upto.{upto-all, size-upto-le}
@@ -18,20 +16,18 @@ use Rattle.definitions.specs.Search.{gather}
 use Rattle.definitions.specs.Table.{Table, bonds, maxBonds}
 use Rattle.definitions.specs.Ring.{Ring}
 use Rattle.definitions.specs.Basis.{basisRing, basisRings, closure?}
-use Rattle.definitions.specs.Assembly.{assemblyCount, ringsIn}
 use Rattle.definitions.specs.AllRings.{allRings}
 use Rattle.definitions.specs.Smallest.{smallestBasis}
-use Rattle.definitions.specs.Label.{field, bytesOfAll, occurs, histogram, frerejacque, pairOf, assemblyPairs, labelOf, frerejacqueTag, ringsTag, smallestTag, assembliesTag}
-use Rattle.definitions.proofs.Tests.{by}
-use Rattle.definitions.proofs.Lists.{count-le, length-listed, gather-ones, length-all}
-use Rattle.definitions.proofs.Sorting.{length-sort, occurs-absent}
+use Rattle.definitions.specs.Label.{field, bytesOfAll, occurs, histogram, frerejacque, assemblyPairs, labelOf, frerejacqueTag, ringsTag, smallestTag, assembliesTag}
+use Rattle.definitions.proofs.Lists.{count-le, length-listed}
+use Rattle.definitions.proofs.Sorting.{occurs-absent}
 use Rattle.definitions.proofs.Rings.{all-rings-are}
-use Rattle.definitions.proofs.Linking.{assembly-count, first?}
 use Rattle.spans.proofs.Taking.{taking-in}
 use Rattle.label.specs.Sizes.{line}
 use Rattle.label.proofs.Bytes.{length-bytesOfAll}
 use Rattle.label.proofs.Tagging.{length-field}
-use Rattle.label.proofs.Counting.{line-none, length-line-some}
+use Rattle.label.proofs.Counting.{line-none, line-at-most}
+use Rattle.label.proofs.Fitting.{pairs-at-most}
 
 -- texts of at most w bytes, of which only those from 1 to b say something, have w bytes for each of b at most
 module _ (f : ℕ → List ℕ) (w b : ℕ) (short : (z : ℕ) → length (f z) ≤ w) (none : f 0 ≡ []) (over : (z : ℕ) → b < z → f z ≡ []) where
@@ -52,15 +48,9 @@ module _ (f : ℕ → List ℕ) (w b : ℕ) (short : (z : ℕ) → length (f z) 
 histogram-most : (n b : ℕ) (sets : List ℕ) → b ≤ maxBonds → ((s : ℕ) → In s sets → (0 < size s) × (size s ≤ b)) → length (histogram n sets) ≤ (1 + n) * b
 unfolding histogram line
 histogram-most n b sets h sized =
-    gather-most (λ z. line n z (occurs z (map size sets))) (1 + n) b short (line-none n 0 (absent 0 (λ s i e. omega (arith, sized s i))))
+    gather-most (λ z. line n z (occurs z (map size sets))) (1 + n) b (λ z. line-at-most n z (occurs z (map size sets))) (line-none n 0 (absent 0 (λ s i e. omega (arith, sized s i))))
     (λ z l. line-none n z (absent z (λ s i e. omega (arith, sized s i)))) maxBonds h
   where
-    short : (z : ℕ) → length (line n z (occurs z (map size sets))) ≤ 1 + n
-    short z =
-        by (eqb (occurs z (map size sets)) 0)
-        (λ e. omega (arith, ap length (line-none n z (eqb-true (occurs z (map size sets)) 0 e))))
-        (λ e. omega (arith, length-line-some n z (eqb-false (occurs z (map size sets)) 0 e)))
-
     absent : (z : ℕ) → ((s : ℕ) → In s sets → size s ≡ z → ⊥) → occurs z (map size sets) ≡ 0
     absent z f = occurs-absent z (map size sets) (λ i. let r = Memᴰ·of-map size sets i in f (r .0) (r .1) (r .2))
 
@@ -73,19 +63,8 @@ ring-size M s r = (
 
 -- there are no more assemblies than bonds
 assemblies-most : (M : Table) → length (assemblyPairs M) ≤ bonds M
-unfolding assemblyPairs basisRings
-assemblies-most M =
-    let rs = basisRings M in
-    omega (
-      arith,
-      length-sort ltb (gather (assemblyCount rs) (λ a. pairOf (ringsIn rs a) ∷ [])),
-      ap length (gather-ones (assemblyCount rs) (λ a. pairOf (ringsIn rs a))),
-      length-all (assemblyCount rs) (λ a. pairOf (ringsIn rs a)),
-      assembly-count rs,
-      count-le (first? rs) (length rs),
-      length-listed (bonds M) (closure? M) (basisRing M),
-      count-le (closure? M) (bonds M),
-    )
+unfolding basisRings
+assemblies-most M = omega (arith, pairs-at-most M, length-listed (bonds M) (closure? M) (basisRing M), count-le (closure? M) (bonds M))
 
 -- the smallest basis is taken from all rings
 taken : (M : Table) (s : ℕ) → In s (smallestBasis M) → In s (allRings M)

@@ -69,11 +69,27 @@ sums-has olds (r ∷ l) i (skip s) = sums-has (olds ++ group r olds) l (Memᴰ·
 sums-has {o} {x} olds (r ∷ l) i (add s) = sums-has (olds ++ group r olds) l (Memᴰ·append-right olds (Memᴰ·map (bitXor r) i)) (span-eq (sym (xor-assoc r o x)) s)
 
 -- the sums of a list are its span
-pub sums-in : (l : List ℕ) (x : ℕ) → In x (sumsOf l) ↔ Span l x
+sums-in : (l : List ℕ) (x : ℕ) → In x (sumsOf l) ↔ Span l x
 sums-in l x = (
   λ i. let (o, j, s) = sums-found (0 ∷ []) l i in span-eq (ap (λ z. bitXor z x) (eq-of-singleton j) ∙ xor-zero-l x) s,
   λ s. sums-has (0 ∷ []) l (here refl) (span-eq (sym (xor-zero-l x)) s),
 )
+
+-- what is found is among the sums
+found-sums : {x : ℕ} (olds found l : List ℕ) → In x (ringsFrom olds found l) → In x (sumsFrom olds l)
+unfolding sumsFrom ringsFrom
+found-sums olds found [] i = absurd (not-in-nil i)
+found-sums {x} olds found (r ∷ l) i =
+    let new = ringsAmong found (group r olds) in
+    let sums = olds ++ group r olds in
+    ⊎-elim
+    (λ j. sums-has sums l (Memᴰ·append-right olds (keep-in (clear? found) x (group r olds) .0 j .0)) (span-eq (sym (xor-self x)) (span-zero l)))
+    (found-sums sums (found ++ new) l)
+    (in-append new i)
+
+-- so each set found is a sum of basis rings
+pub combined-sum : (l : List ℕ) (x : ℕ) → In x (combined l) → SumOf l x
+combined-sum l x i = span→sum (sums-in l x .0 (found-sums (0 ∷ []) [] l i))
 
 -- no two of the old sets differ by a sum of the list
 abbrev Separate : List ℕ → List ℕ → Type 0

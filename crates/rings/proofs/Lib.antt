@@ -8,7 +8,9 @@
 --     Ordering     a list ordered by size, part by part
 --     Ranking      the rings put one after another into the parts of their sizes
 --     Selecting    the smallest basis by elimination
+--     Tallying     the rings counted by size, assembly by assembly
 --     Perceiving   what is worked out of a table: the assemblies one after another, and each answer
+--     Parting      what is found in one assembly of a table shares no bond with what is found in another
 pub mod Appending
 pub mod Combining
 pub mod Turns
@@ -18,4 +20,6 @@ pub mod Placing
 pub mod Ordering
 pub mod Ranking
 pub mod Selecting
+pub mod Tallying
 pub mod Perceiving
+pub mod Parting

@@ -1,6 +1,6 @@
 -- What is worked out of a table. Its assemblies have so many sums, and no more rings are found in them. Found one assembly after another
 -- and put in order, they are all rings. Assumes nothing.
-use mathlib.Core.Path.{_≡_, refl, sym, ap, ap₂, subst, subst⁻¹, _∙_}
+use mathlib.Core.Path.{_≡_, refl, sym, ap, subst, subst⁻¹, _∙_}
 use mathlib.Core.Bool.{Bool, true, false, cond}
 use mathlib.Core.List.{List, [], List·Memᴰ as In}
 use Prim.Native.Nat.{ℕ, suc, _+_, _-_, _*_, _%_, _^_, _<_, _≤_}
@@ -9,7 +9,6 @@ use native.Mathlib.Nat.{le-antisymm, min-le-right}
 use native.Mathlib.Decide.{le-ind}
 use native.Mathlib.Omega.{arith}
 use lib.ListN.{replicate, length, take, getD, length-take}
-use lib.Seq.{length-take-le}
 use lib.Pow.{pow-pos, pow-mono}
 use lib.Dec.{ltb}
 use borrow.Author.Tests.{lt-ltb, le-ltb, ltb-false}
@@ -29,6 +28,7 @@ use Rattle.definitions.proofs.Sorting.{length-sort, sort-in}
 use Rattle.definitions.proofs.Refusals.{Valid, accepted, rings-kept, rings-free, rings-accepted}
 use Rattle.definitions.proofs.Rings.{all-rings-are}
 use Rattle.definitions.proofs.Linking.{rings-total}
+use Rattle.table.proofs.Answers.{is-accepted}
 use Rattle.basis.specs.Held.{ringsOf, BasisOf, membersOf, picked, AssembliesOf}
 use Rattle.basis.specs.declared.basis.Basis.{Basis}
 use Rattle.basis.specs.declared.assembly.Assemblies.{Assemblies}
@@ -37,43 +37,43 @@ use Rattle.basis.proofs.Holding.{members-size, picked-rings}
 use Rattle.cycles.proofs.BasisList.{even-sums}
 use Rattle.cycles.proofs.Bound.{total-last, total-share, sums-share}
 use Rattle.rings.specs.Found.{most, Room, Appended, Ordered}
-use Rattle.rings.specs.Gibbs.{combined, foundIn, allCombined}
-use Rattle.rings.specs.Elimination.{Choosable, Selected}
-use Rattle.rings.specs.Perceiving.{tangledOf, sumsIn, mostOf, Small, Combinable, Listable, Roomy, Blank, Refused, Accepted, Perceives}
+use Rattle.rings.specs.Gibbs.{combined, foundAt, foundIn, allCombined}
+use Rattle.rings.specs.Elimination.{Spanned, Choosable, Selected}
+use Rattle.rings.specs.Perceiving.{tangledIn, sumsIn, mostOf, Small, Combinable, Listable, Roomy, asked, Blank, Refused, Accepted, Perceives}
 use Rattle.rings.specs.declared.perception.Perceived.{Perceived}
 use Rattle.rings.proofs.Appending.{appended-none, appended-more}
-use Rattle.rings.proofs.Turns.{picked-few, combined-few}
+use Rattle.rings.proofs.Turns.{found-few}
 use Rattle.rings.proofs.Exactly.{all-combined}
 
 -- ---- too many of them
 
 -- none of the assemblies below a has too many basis rings
-pub record Untangled (s : Assemblies) (a : ℕ) : Type 0 where
-  pub within : a ≤ s .count
-  pub none : some? a (λ k. ltb maxAssembly (size (membersOf s k))) ≡ false
+pub record Untangled (members : List ℕ) (n a : ℕ) : Type 0 where
+  pub within : a ≤ n
+  pub none : some? a (λ k. ltb maxAssembly (size (getD members k 0))) ≡ false
 
 -- before the first
-pub untangled-none : (s : Assemblies) → Untangled s 0
-untangled-none s = record { within = omega arith; none = some-none (λ k. ltb maxAssembly (size (membersOf s k))) }
+pub untangled-none : (members : List ℕ) (n : ℕ) → Untangled members n 0
+untangled-none members n = record { within = omega arith; none = some-none (λ k. ltb maxAssembly (size (getD members k 0))) }
 
-module _ {s : Assemblies} {a n : ℕ} (u : Untangled s a) (is : n ≡ size (membersOf s a)) (l : a < s .count) where
+module _ {members : List ℕ} {n a k : ℕ} (u : Untangled members n a) (is : k ≡ size (getD members a 0)) (l : a < n) where
   -- nor has the next
-  pub untangled-more : n ≤ maxAssembly → Untangled s (a + 1)
+  pub untangled-more : k ≤ maxAssembly → Untangled members n (a + 1)
   untangled-more h = record {
     within = omega arith;
-    none = some-more (λ k. ltb maxAssembly (size (membersOf s k))) (u .none) refl (le-ltb maxAssembly (size (membersOf s a)) (omega (arith, is)));
+    none = some-more (λ i. ltb maxAssembly (size (getD members i 0))) (u .none) refl (le-ltb maxAssembly (size (getD members a 0)) (omega (arith, is)));
   }
 
   -- the next has too many
-  pub untangled-found : maxAssembly < n → true ≡ tangledOf s
-  untangled-found h = some-found (λ k. ltb maxAssembly (size (membersOf s k))) l refl (lt-ltb maxAssembly (size (membersOf s a)) (omega (arith, is)))
+  pub untangled-found : maxAssembly < k → true ≡ tangledIn members n
+  untangled-found h = some-found (λ i. ltb maxAssembly (size (getD members i 0))) l refl (lt-ltb maxAssembly (size (getD members a 0)) (omega (arith, is)))
 
 -- none has
-pub untangled-all : {s : Assemblies} {a : ℕ} → Untangled s a → s .count ≤ a → false ≡ tangledOf s
-untangled-all {s} u h = some-end (λ k. ltb maxAssembly (size (membersOf s k))) (u .within) h (u .none)
+pub untangled-all : {members : List ℕ} {n a : ℕ} → Untangled members n a → n ≤ a → false ≡ tangledIn members n
+untangled-all {members} u h = some-end (λ k. ltb maxAssembly (size (getD members k 0))) (u .within) h (u .none)
 
 -- the test of the assemblies is that of the table
-tangled-test : {M : Table} {b : Basis} {s : Assemblies} → BasisOf M b → AssembliesOf (ringsOf b) s → tangledOf s ≡ tangled? M
+tangled-test : {M : Table} {b : Basis} {s : Assemblies} → BasisOf M b → AssembliesOf (ringsOf b) s → tangledIn (s .members) (s .count) ≡ tangled? M
 unfolding tangled?
 tangled-test {M} {b} {s} held h =
     some-ext (s .count) _ _ (λ a l. ap (ltb maxAssembly) (members-size h a l))
@@ -81,7 +81,7 @@ tangled-test {M} {b} {s} held h =
     ∙ ap (λ rs. some? (assemblyCount rs) (λ a. ltb maxAssembly (length (ringsIn rs a)))) (held .rings)
 
 -- where the test fails, they are small
-pub untangled-small : {rs : List ℕ} {s : Assemblies} {t : Bool} → AssembliesOf rs s → t ≡ tangledOf s → t ≡ false → Small s
+pub untangled-small : {rs : List ℕ} {s : Assemblies} {t : Bool} → AssembliesOf rs s → t ≡ tangledIn (s .members) (s .count) → t ≡ false → Small (s .members) (s .count)
 untangled-small {s = s} h test q = record {
   counted = h .counted;
   small = λ a l. ltb-false maxAssembly (size (membersOf s a)) (none-at (s .count) (λ k. ltb maxAssembly (size (membersOf s k))) (sym test ∙ q) a l);
@@ -99,17 +99,17 @@ total-each n g a h =
     le-ind (λ m. g a ≤ total (listed m (λ k. true) g)) (omega (arith, total-last a g)) (λ m (l : suc a ≤ m) ih. omega (arith, total-last m g)) n h
 
 -- n is what the assemblies below a have
-pub record Added (s : Assemblies) (n a : ℕ) : Type 0 where
-  pub within : a ≤ s .count
+pub record Added (members : List ℕ) (m n a : ℕ) : Type 0 where
+  pub within : a ≤ m
   pub few : n ≤ (2 ^ maxAssembly - 1) * a
-  pub sum : n ≡ sumsIn (s .members) a
+  pub sum : n ≡ sumsIn members a
 
 -- before the first
-pub added-none : (s : Assemblies) → Added s 0 0
+pub added-none : (members : List ℕ) (m : ℕ) → Added members m 0 0
 unfolding listed total
-added-none s = record { within = omega arith; few = omega arith; sum = refl }
+added-none members m = record { within = omega arith; few = omega arith; sum = refl }
 
-module _ {s : Assemblies} {n a k : ℕ} (d : Added s n a) (small : Small s) (l : a < s .count) (is : k ≡ size (membersOf s a)) where
+module _ {members : List ℕ} {m n a k : ℕ} (d : Added members m n a) (small : Small members m) (l : a < m) (is : k ≡ size (getD members a 0)) where
   -- the next has not too many
   pub added-few : k ≤ maxAssembly
   added-few = omega (arith, is, small .small a l)
@@ -127,34 +127,26 @@ module _ {s : Assemblies} {n a k : ℕ} (d : Added s n a) (small : Small s) (l :
   added-fits = omega (arith, moved, pow-mono added-few, d .few, d .within, small .counted)
 
   -- they are added
-  pub added-more : Added s (n + ((1 * 2 ^ k) % 2 ^ 64 - 1)) (a + 1)
+  pub added-more : Added members m (n + ((1 * 2 ^ k) % 2 ^ 64 - 1)) (a + 1)
   added-more = record {
     within = omega arith;
     few = omega (arith, moved, d .few, pow-mono added-few);
-    sum = rw (add-one, moved, is) (omega (arith, d .sum, total-last a (sumsAt (s .members))));
+    sum = rw (add-one, moved, is) (omega (arith, d .sum, total-last a (sumsAt members)));
   }
 
 -- all of them
-pub added-all : {s : Assemblies} {n a : ℕ} → Added s n a → s .count ≤ a → n ≡ mostOf s
-added-all {s} d h = d .sum ∙ ap (sumsIn (s .members)) (le-antisymm (d .within) h)
+pub added-all : {members : List ℕ} {m n a : ℕ} → Added members m n a → m ≤ a → n ≡ sumsIn members m
+added-all {members} d h = d .sum ∙ ap (sumsIn members) (le-antisymm (d .within) h)
 
 -- ---- what the combination finds in them
 
--- what is found in assembly a
-abbrev foundAt : List ℕ → List ℕ → ℕ → List ℕ
-foundAt rings members a = combined (picked rings (getD members a 0))
-
--- in each no more than it has sums
-found-few : (rings members : List ℕ) (a : ℕ) → length (foundAt rings members a) ≤ sumsAt members a
-found-few rings members a = omega (arith, combined-few (picked rings (getD members a 0)), pow-mono (picked-few rings (getD members a 0)))
-
--- so in all no more than they have sums
+-- no more than they have sums that are not empty
 all-found-few : (rings members : List ℕ) (n : ℕ) → length (foundIn rings members n) ≤ sumsIn members n
 all-found-few rings members n =
     omega (
       arith,
       length-gather n (foundAt rings members),
-      total-share 1 1 n (λ a. length (foundAt rings members a)) (sumsAt members) (λ a l. omega (arith, found-few rings members a)),
+      total-share 1 1 n (λ a. length (foundAt rings members a)) (sumsAt members) (λ a l. omega (arith, found-few rings (getD members a 0))),
     )
 
 -- no fewer in more of them
@@ -219,7 +211,7 @@ module _ {rings members : List ℕ} {n : ℕ} {start found : List ℕ} {r a : �
         t .added .long,
         t .added .count,
         all-found-few rings members a,
-        found-few rings members a,
+        found-few rings (getD members a 0),
         ap (λ k. length (combined (picked rings k))) is,
         total-last a (sumsAt members),
         sums-mono members (suc a) n (omega arith),
@@ -247,37 +239,27 @@ combined-listed g same e = record { long = same; count = g .count ∙ omega arit
 -- ---- the rings in order
 
 module _ {rings start end : List ℕ} {r : ℕ} (o : Ordered rings start end r) where
-  -- so many they are
-  pub ordered-count : r ≡ length (sort before rings)
-  ordered-count = o .count ∙ sym (length-sort before rings)
-
   -- there is room for them
   pub ordered-within : r ≤ length end
-  ordered-within = omega (arith, ordered-count, ap length (o .list), length-take r end, min-le-right r (length end))
+  ordered-within = omega (arith, o .count, length-sort before rings, ap length (o .list), length-take r end, min-le-right r (length end))
 
--- what is found in all assemblies is in order
-pub ordered-all : {b : Basis} {s : Assemblies} {start end : List ℕ} {r : ℕ} → Combinable b s → Ordered (foundIn (b .rings) (s .members) (s .count)) start end r
-    → Ordered (allCombined (ringsOf b)) start end r
-ordered-all {start = start} {end} {r} c o = subst (λ l. Ordered l start end r) (found-all c) o
+  -- where each is a sum of as many basis rings as are wanted, a smallest basis can be chosen from them
+  pub listed-choosable : {n : ℕ} {taken : List ℕ} → n ≤ room → Spanned n rings → length taken ≡ room → Choosable end r n taken
+  listed-choosable few spanned t = record {
+    within = ordered-within;
+    lent = t;
+    few = few;
+    spanned = (spanned .0, spanned .1, λ x i. spanned .2 x (sort-in before rings x .0 (rw (o .list) at i)));
+  }
 
--- each is a sum of basis rings, so a smallest basis can be chosen from them
-pub listed-choosable : {b : Basis} {s : Assemblies} {start end taken : List ℕ} {r : ℕ} → Combinable b s → Ordered (foundIn (b .rings) (s .members) (s .count)) start end r
-    → length taken ≡ room → Choosable end r (b .count) taken
-listed-choosable {b} c o t = record {
-  within = ordered-within o;
-  lent = t;
-  few = c .few;
-  spanned = (c .spanned .0, c .spanned .1, λ x i. c .spanned .2 x (sort-in before (allCombined (ringsOf b)) x .0 (rw (ordered-all c o .list) at i)));
-}
+  -- they are what is asked for where that is all rings
+  pub all-asked : {smallest : Bool} → smallest ≡ false → take r end ≡ asked smallest (sort before rings)
+  all-asked q = rw (q) (o .list)
 
-module _ {rings start end lent taken : List ℕ} {n r : ℕ} (o : Ordered rings start end n) (chosen : Selected (take n end) lent taken r) where
-  -- what is chosen is taken of them
-  pub selected-list : take r taken ≡ taking [] (sort before rings)
-  selected-list = chosen .list ∙ ap (taking []) (o .list)
-
-  -- and so many are
-  pub selected-count : r ≡ length (taking [] (sort before rings))
-  selected-count = sym (length-take-le r taken (omega (arith, chosen .few, chosen .long))) ∙ ap length selected-list
+  -- and what is chosen is taken of them, where that is the smallest basis
+  pub chosen-asked : {smallest : Bool} {lent taken : List ℕ} {k : ℕ} → smallest ≡ true → Selected (take r end) lent taken k
+      → take k taken ≡ asked smallest (sort before rings)
+  chosen-asked q chosen = rw (q) (chosen .list ∙ ap (taking []) (o .list))
 
 -- ---- the answers
 
@@ -292,7 +274,7 @@ perceives-refused {M} {p} {number} given h r =
     record { number = r .number ∙ kept; refused = λ n. subst (λ c. Refused c p) kept r; accepted = λ z. absurd (omega arith) }
 
 module _ {M : Table} {b : Basis} {s : Assemblies} {number : ℕ} (given : number ≡ refusal M) (zero : number ≤ 0) (held : BasisOf M b) (h : AssembliesOf (ringsOf b) s)
-    {t : Bool} (test : t ≡ tangledOf s) where
+    {t : Bool} (test : t ≡ tangledIn (s .members) (s .count)) where
   -- the assemblies alone decide
   decided : {c : Bool} → t ≡ c → refusalOfRings M ≡ cond c TANGLED 0
   decided e = rings-free M (omega arith) ∙ ap (λ c. cond c TANGLED 0) (sym (tangled-test held h) ∙ sym test ∙ e)
@@ -351,6 +333,14 @@ module _ {M : Table} {p : Perceived} (seen : Perceives M p) (zero : p .number �
       ring : (x : ℕ) → In x (allCombined (ringsOf (p .basis))) → In x (allRings M)
       ring x i = subst (In x) perceived-rings (sort-in before (allCombined (ringsOf (p .basis))) x .1 i)
 
+  -- what the combination finds in their assemblies is all rings
+  perceived-found : sort before (foundIn (p .basis .rings) (p .assemblies .members) (p .assemblies .count)) ≡ allRings M
+  perceived-found = ap (sort before) (found-all perceived-combinable) ∙ perceived-rings
+
+  -- and each of these is a sum of the basis rings
+  pub perceived-spanned : Spanned (p .basis .count) (foundIn (p .basis .rings) (p .assemblies .members) (p .assemblies .count))
+  perceived-spanned = subst⁻¹ (Spanned (p .basis .count)) (found-all perceived-combinable) (perceived-combinable .spanned)
+
   -- a list has room for them that is longer than they have sums which are not empty
   pub perceived-less : {n : ℕ} → p .most < n → Roomy (p .assemblies) n
   perceived-less h = roomy-less (perceived .assemblies .counted) (omega (arith, perceived .most))
@@ -361,4 +351,10 @@ module _ {M : Table} {p : Perceived} (seen : Perceives M p) (zero : p .number �
 
   -- an answer that holds what the table asks for is the table's
   pub perceived-outcome : {found wanted : List ℕ} (lent : List ℕ) {r : Outcome} → found ≡ wanted → r ≡ outcome 0 found lent → r ≡ outcome (refusalOfRings M) wanted lent
-  perceived-outcome lent e h = h ∙ ap₂ (λ c l. outcome c l lent) (sym unrefused) e
+  perceived-outcome {wanted = wanted} lent e h = is-accepted wanted lent (seen .number) zero e h
+
+  -- and one that holds what is asked for of the rings found
+  pub perceived-asked : (smallest : Bool) (lent : List ℕ) {r : Outcome}
+      → r ≡ outcome 0 (asked smallest (sort before (foundIn (p .basis .rings) (p .assemblies .members) (p .assemblies .count)))) lent
+      → r ≡ outcome (refusalOfRings M) (asked smallest (allRings M)) lent
+  perceived-asked smallest lent h = perceived-outcome lent (ap (asked smallest) perceived-found) h

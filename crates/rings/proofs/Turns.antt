@@ -79,7 +79,7 @@ rings-few olds found (r ∷ l) =
     )
 
 -- k basis rings have 2 ^ k - 1 sums that are not empty
-pub combined-few : (l : List ℕ) → length (combined l) ≤ 2 ^ length l - 1
+combined-few : (l : List ℕ) → length (combined l) ≤ 2 ^ length l - 1
 combined-few l = omega (arith, rings-few (0 ∷ []) [] l)
 
 -- ---- no member is passed over
@@ -94,8 +94,12 @@ places-few s =
     omega (arith, size-setOf room (has s), size-sub (setOf room (has s)) s (λ k e. and-both (ltb k room) (has s k) (sym (has-setOf room (has s) k) ∙ e) .1))
 
 -- so no more basis rings stand at them
-pub picked-few : (rings : List ℕ) (s : ℕ) → length (picked rings s) ≤ size s
+picked-few : (rings : List ℕ) (s : ℕ) → length (picked rings s) ≤ size s
 picked-few rings s = omega (arith, length-listed room (has s) (λ i. getD rings i 0), places-few s)
+
+-- and fewer rings are found of them than they have sums
+pub found-few : (rings : List ℕ) (s : ℕ) → length (combined (picked rings s)) < 2 ^ size s
+found-few rings s = omega (arith, combined-few (picked rings s), pow-mono (picked-few rings s), pow-pos (size s))
 
 -- ---- the loop: the basis rings below place i are combined
 

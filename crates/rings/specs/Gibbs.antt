@@ -44,9 +44,13 @@ sumsOf rs = sumsFrom (0 ∷ []) rs
 abbrev pub combined : List ℕ → List ℕ
 combined rs = ringsFrom (0 ∷ []) [] rs
 
--- what it finds in the first n assemblies, whose sets of basis rings are given, one after another
+-- what it finds in assembly a, where the sets of basis rings are given
+abbrev pub foundAt : List ℕ → List ℕ → ℕ → List ℕ
+foundAt rings members a = combined (picked rings (getD members a 0))
+
+-- what it finds in the first n assemblies, one after another
 abbrev pub foundIn : List ℕ → List ℕ → ℕ → List ℕ
-foundIn rings members n = gather n (λ a. combined (picked rings (getD members a 0)))
+foundIn rings members n = gather n (foundAt rings members)
 
 -- what it finds in all assemblies of a list of basis rings, one after another
 unfoldable pub allCombined : List ℕ → List ℕ

@@ -2,8 +2,8 @@
 -- Assumes nothing.
 use mathlib.Core.Path.{_≡_}
 use mathlib.Core.Logic.{_≢_}
-use mathlib.Core.Bool.{Bool, true}
-use mathlib.Core.List.{List}
+use mathlib.Core.Bool.{Bool, true, cond}
+use mathlib.Core.List.{List, []}
 use Prim.Native.Nat.{ℕ, _-_, _^_, _≤_, _<_}
 use lib.Dec.{ltb}
 use lib.ListN.{length, getD}
@@ -12,6 +12,7 @@ use Rattle.definitions.specs.Search.{some?, listed, total}
 use Rattle.definitions.specs.Table.{Table, maxBonds}
 use Rattle.definitions.specs.Basis.{basisRings}
 use Rattle.definitions.specs.Assembly.{maxAssembly}
+use Rattle.definitions.specs.Smallest.{taking}
 use Rattle.definitions.specs.Answer.{refusalOfRings}
 use Rattle.basis.specs.Held.{ringsOf, Counted, BasisOf, membersOf, AssembliesOf}
 use Rattle.basis.specs.declared.basis.Basis.{Basis}
@@ -20,11 +21,11 @@ use Rattle.rings.specs.Gibbs.{allCombined}
 use Rattle.rings.specs.Elimination.{Spanned}
 use Rattle.rings.specs.declared.perception.Perceived.{Perceived}
 
--- some assembly has too many basis rings
-abbrev pub tangledOf : Assemblies → Bool
-tangledOf s = some? (s .count) (λ a. ltb maxAssembly (size (membersOf s a)))
+-- some of the first n assemblies, whose sets of basis rings are given, has too many
+abbrev pub tangledIn : List ℕ → ℕ → Bool
+tangledIn members n = some? n (λ a. ltb maxAssembly (size (getD members a 0)))
 
--- how many sums that are not empty the first n assemblies have, whose sets of basis rings are given: k basis rings have 2 ^ k - 1
+-- how many sums that are not empty they have: k basis rings have 2 ^ k - 1
 abbrev pub sumsIn : List ℕ → ℕ → ℕ
 sumsIn members n = total (listed n (λ a. true) (λ a. 2 ^ size (getD members a 0) - 1))
 
@@ -33,16 +34,16 @@ abbrev pub mostOf : Assemblies → ℕ
 mostOf s = sumsIn (s .members) (s .count)
 
 -- there are no more assemblies than bonds, and none has too many basis rings
-pub record Small (s : Assemblies) : Type 0 where
-  pub counted : s .count ≤ maxBonds
-  pub small : (a : ℕ) → a < s .count → size (membersOf s a) ≤ maxAssembly
+pub record Small (members : List ℕ) (n : ℕ) : Type 0 where
+  pub counted : n ≤ maxBonds
+  pub small : (a : ℕ) → a < n → size (getD members a 0) ≤ maxAssembly
 
 -- the assemblies of basis rings, none with too many; what the combination finds in them are sums of the basis rings
 pub record Combinable (b : Basis) (s : Assemblies) : Type 0 where
   pub counted : length (ringsOf b) ≡ b .count
   pub few : Counted b
   pub assemblies : AssembliesOf (ringsOf b) s
-  pub small : Small s
+  pub small : Small (s .members) (s .count)
   pub spanned : Spanned (b .count) (allCombined (ringsOf b))
 
 -- a list of m words has room for what the combination finds in the first n assemblies, and for the sums of each
@@ -54,6 +55,10 @@ pub record Listable (members : List ℕ) (n m : ℕ) : Type 0 where
 -- the same of assemblies
 abbrev pub Roomy : Assemblies → ℕ → Type 0
 Roomy s m = Listable (s .members) (s .count) m
+
+-- what is asked for of all rings in order: those that are taken for the smallest basis, or all
+abbrev pub asked : Bool → List ℕ → List ℕ
+asked smallest rings = cond smallest (taking [] rings) rings
 
 -- no basis rings and no assemblies: empty sets
 pub record Blank (b : Basis) (s : Assemblies) : Type 0 where

@@ -10,11 +10,10 @@ use table::TANGLED;
 ghost use mathlib.Core.Path.{_≡_};
 ghost use Prim.Native.Nat.{_≤_};
 ghost use lib.ListN.{length};
-ghost use Rattle.sets.specs.Bond.{room};
-ghost use Rattle.definitions.specs.Table.{table};
+ghost use Rattle.definitions.specs.Table.{table, maxBonds};
 ghost use Rattle.rings.specs.Found.{Appended, Ordered};
 ghost use Rattle.rings.specs.Gibbs.{foundIn};
-ghost use Rattle.rings.specs.Perceiving.{tangledOf, mostOf, Small, Listable, Refused, Perceives};
+ghost use Rattle.rings.specs.Perceiving.{tangledIn, sumsIn, Small, Listable, Refused, Perceives};
 
 // The most basis rings that an assembly may have.
 const MAX_ASSEMBLY: usize = 10;
@@ -49,13 +48,13 @@ fn refused(number: u8) -> Perceived
 }
 
 // Has an assembly more than ten basis rings?
-fn tangled(assemblies: Assemblies) -> bool
-    requires { ⌜ assemblies .count ≤ room ⌝ }
-    ensures { λ r. ⌜ r ≡ tangledOf assemblies ⌝ }
+fn tangled(members: &[u64; MAX_BONDS], assemblies: usize) -> bool
+    requires { ⌜ assemblies ≤ maxBonds ⌝ }
+    ensures { λ r. ⌜ r ≡ tangledIn (now (members .entry)) assemblies ⌝ }
 {
     let mut a: usize = 0;
-    while a < assemblies.count {
-        if RingSet::of_word(assemblies.members[a]).size() > MAX_ASSEMBLY {
+    while a < assemblies {
+        if RingSet::of_word(members[a]).size() > MAX_ASSEMBLY {
             return true;
         }
         a += 1;
@@ -64,14 +63,14 @@ fn tangled(assemblies: Assemblies) -> bool
 }
 
 // How many sums that are not empty the assemblies have.
-fn most_of(assemblies: Assemblies) -> usize
-    requires { ⌜ Small assemblies ⌝ }
-    ensures { λ r. ⌜ r ≡ mostOf assemblies ⌝ }
+fn most_of(members: &[u64; MAX_BONDS], assemblies: usize) -> usize
+    requires { ⌜ Small (now members) assemblies ⌝ }
+    ensures { λ r. ⌜ r ≡ sumsIn (now (members .entry)) assemblies ⌝ }
 {
     let mut most: usize = 0;
     let mut a: usize = 0;
-    while a < assemblies.count {
-        most += (1 << RingSet::of_word(assemblies.members[a]).size()) - 1;
+    while a < assemblies {
+        most += (1 << RingSet::of_word(members[a]).size()) - 1;
         a += 1;
     }
     most
@@ -86,15 +85,16 @@ pub fn perceive(atoms: u64, bonds: &[u8]) -> Perceived
         return refused(number);
     }
     let basis = basis::basis_of(atoms, bonds);
-    let assemblies = basis::assemblies_of(basis);
-    if tangled(assemblies) {
+    let assemblies = basis::assemblies_of(&basis.rings, basis.count);
+    if tangled(&assemblies.members, assemblies.count) {
         return refused(TANGLED);
     }
+    let most = most_of(&assemblies.members, assemblies.count);
     Perceived {
         number: 0,
         basis,
         assemblies,
-        most: most_of(assemblies),
+        most,
     }
 }
 
@@ -122,7 +122,7 @@ fn combine(
 
 // All rings of the first assemblies, given by their sets of basis rings, in order at the start of a list, and how many there are. They
 // are worked out in another list as long; the one in which they come to stand holds the sums before that.
-pub fn list_rings(
+pub(crate) fn list_rings(
     rings: &[u64; MAX_BONDS],
     members: &[u64; MAX_BONDS],
     assemblies: usize,

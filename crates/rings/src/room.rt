@@ -9,4 +9,4 @@ pub const MANY: usize = 1024;
 
 // No table has more rings: ten basis rings have 1023 sums that are not empty, fewer basis rings have fewer for each, and a table has at
 // most 64.
-pub const MOST: usize = 6547;
+pub(crate) const MOST: usize = 6547;

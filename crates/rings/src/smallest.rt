@@ -47,7 +47,12 @@ fn take_new(
 
 // The smallest basis of the first n rings of a list, which are sums of as many basis rings as are wanted: when so many are taken, the rest
 // are sums of them.
-pub fn smallest_of(found: &[u64], n: usize, want: usize, taken: &mut [u64; MAX_BONDS]) -> usize
+pub(crate) fn smallest_of(
+    found: &[u64],
+    n: usize,
+    want: usize,
+    taken: &mut [u64; MAX_BONDS],
+) -> usize
     requires { ⌜ Choosable (now found) n want (now taken) ⌝ }
     ensures { λ r. ⌜ Selected (take n (now (found .entry))) (now (taken .entry)) (now (taken .exit)) r ⌝ }
 {

@@ -7,10 +7,6 @@ use Rattle.sets.specs.declared.ring.RingSet.{RingSet}
 abbrev pub bits : RingSet → ℕ
 bits s = s .0
 
--- the set with no ring
-abbrev pub noRings : RingSet
-noRings = record { 0 = 0 }
-
 -- the members are below this: LAST is one less
 abbrev pub room : ℕ
 room = 64

@@ -58,6 +58,13 @@ impl AtomSet {
         self.0 == 0
     }
 
+    // Is atom a in the set?
+    pub fn has(self, a: usize) -> bool
+        ensures { λ r. ⌜ r ≡ spec.has (bits self) a ⌝ }
+    {
+        word::has(self.0, a)
+    }
+
     // The least atom that is at least from, or LAST + 1 where there is none.
     pub fn next(self, from: usize) -> usize
         ensures { λ r. ⌜ spec.IsNext room (bits self) from r ⌝ }

@@ -35,7 +35,7 @@ module _ (w : ℕ → ℕ) where
   in-light t xs x i l = keep-in (λ x. leb (w x) t) x xs .1 (i, le-leb (w x) t l)
 
   -- and the light ones are such
-  from-light : (t : ℕ) (xs : List ℕ) (x : ℕ) → In x (light w t xs) → In x xs × (w x ≤ t)
+  pub from-light : (t : ℕ) (xs : List ℕ) (x : ℕ) → In x (light w t xs) → In x xs × (w x ≤ t)
   from-light t xs x i = let r = keep-in (λ x. leb (w x) t) x xs .0 i in (r .0, leb-true (w x) t (r .1))
 
   -- what is taken up to weight t spans, with what was taken before, the sets up to weight t
@@ -86,6 +86,10 @@ module _ (w : ℕ → ℕ) where
     pub least : (cs : List ℕ) → Basis xs cs → total (map w bs) ≤ total (map w cs)
 
   module _ (xs : List ℕ) (rising : Rising w xs) where
+    -- what is taken up to weight t spans the sets up to weight t
+    pub taking-light : (t x : ℕ) → In x xs → w x ≤ t → Span (light w t (taking [] xs)) x
+    taking-light t x i l = subst (λ l. Span l x) (append-nil (light w t (taking [] xs))) (run-light (run [] xs) rising t x i l)
+
     -- up to each weight as many are taken as any independent list has
     pub taking-most : (bs : List ℕ) → Indep bs → ((b : ℕ) → In b bs → Reached xs b) → (t : ℕ) → upto t (map w bs) ≤ upto t (map w (taking [] xs))
     taking-most bs d reached t =
@@ -95,11 +99,7 @@ module _ (w : ℕ → ℕ) where
         spanned : (b : ℕ) → In b (light w t bs) → Span (light w t (taking [] xs)) b
         spanned b i =
             let (j, l) = from-light t bs b i in
-            span-trans
-            (λ x k.
-            let (m, n) = from-light (w b) xs x k in
-            subst (λ l. Span l x) (append-nil (light w t (taking [] xs))) (run-light (run [] xs) rising t x m (le-trans n l)))
-            (reached b j)
+            span-trans (λ x k. let (m, n) = from-light (w b) xs x k in taking-light t x m (le-trans n l)) (reached b j)
 
     module _ (bs : List ℕ) (basis : Basis xs bs) where
       most : (t : ℕ) → upto t (map w bs) ≤ upto t (map w (taking [] xs))

@@ -3,7 +3,7 @@
 --     Filling      the invariants of a list filled from its start
 --     Tried        the refusals as the check tries them
 --     Meeting      the rows, and the bytes of an accepted table
---     Doubling     pairs of atoms bonded twice, as the rows tell them
+--     Doubling     pairs of atoms bonded twice, as the neighbours tell them
 --     Counting     as many basis rings as bonds and fragments less atoms
 --     Bonding      the neighbours of each atom
 --     Flooding     the flood over the atoms that counts the fragments

@@ -1,11 +1,12 @@
 // The check of a connection table, an atom count and two bytes a bond, and what the steps above take from an accepted one: the
-// ends of its bonds and the rows of its atoms.
+// ends of its bonds and the rows of its atoms. Words are written over a lent list here too.
 mod answer;
 mod ends;
 mod fragment;
 mod limits;
 mod refusal;
 mod row;
+mod words;
 
 pub use answer::ATOMS;
 pub use answer::Answer;
@@ -22,6 +23,7 @@ pub use limits::MAX_ATOMS;
 pub use limits::MAX_BONDS;
 pub use refusal::refusal_of;
 pub use row::rows;
+pub use words::write_words;
 ghost use mathlib.Core.Path.{_≡_};
 ghost use mathlib.Core.List.{[]};
 ghost use lib.ListN.{length};

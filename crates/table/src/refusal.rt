@@ -2,9 +2,8 @@
 use super::answer;
 use super::ends::end_at;
 use super::limits;
-use super::row;
+use sets::AtomSet;
 ghost use mathlib.Core.Path.{_≡_};
-ghost use mathlib.Core.Bool.{false};
 ghost use Prim.Native.Nat.{_/_, _<_};
 ghost use lib.ListN.{length};
 ghost use Rattle.definitions.specs.Search.{some?};
@@ -55,19 +54,22 @@ fn any_self_bond(bonds: &[u8]) -> bool
     false
 }
 
-// Is some pair of atoms bonded twice? Then the rows of a bond's two atoms share another bond.
+// Is some pair of atoms bonded twice? Each bond is looked up among the neighbours that the bonds before it have made, and then makes its
+// two atoms neighbours of one another.
 fn any_twice(bonds: &[u8]) -> bool
-    requires { ⌜ Fitting (now bonds) × (some? (length (now bonds) / 2) (spec.selfBond? (bondsAlone (now bonds))) ≡ false) ⌝ }
+    requires { ⌜ Fitting (now bonds) ⌝ }
     ensures { λ r. ⌜ r ≡ some? (length (now (bonds .entry)) / 2) (spec.seenBefore? (bondsAlone (now (bonds .entry)))) ⌝ }
 {
-    let rows = row::rows(bonds);
+    let mut near = [AtomSet::EMPTY; limits::MAX_ATOMS];
     let mut k: usize = 0;
     while k < bonds.len() / 2 {
         let a = end_at(bonds, 2 * k);
         let b = end_at(bonds, 2 * k + 1);
-        if rows[a].without(k).meets(rows[b]) {
+        if near[a].has(b) {
             return true;
         }
+        near[a] = near[a].with(b);
+        near[b] = near[b].with(a);
         k += 1;
     }
     false

@@ -27,15 +27,16 @@ assemblies-of-requires c κs = search needs
 
 write-assemblies-requires : tie.Need-write-assemblies-requires
 write-assemblies-requires c κs =
-    let held = c .before .before .before .basis-of .ensures in
-    (held .counted, c .before .assemblies-of .ensures, omega (arith, ap length (held-assemblies held), assemblies-counted held, c .before .before .if2 .left))
+    let at = c .before .before .before .before in
+    let held = at .before .basis-of .ensures in
+    (held .counted, c .before .assemblies-of .ensures, omega (arith, ap length (held-assemblies held), assemblies-counted held, at .if2 .left))
 
 same-length : tie.Need-same-length
 same-length c = search needs
 
 returns-3 : tie.Need-returns-3
 returns-3 c =
-    let at = c .before .before .before .before .before in
+    let at = c .before .before .before .before .before .before .before in
     let held = at .before .basis-of .ensures in
     is-full _ _ (at .before .before .before .refusal-of .ensures) (omega (arith, at .before .before .if1 .left)) (assemblies-counted held) (at .if2 .left)
     (rw (held-assemblies held) at (c .before .before .write-assemblies .ensures))

@@ -1,7 +1,7 @@
--- The refusals are handed on. For an accepted table the lists chosen have room for all rings, and what is written is its label.
+-- The refusals are handed on. For an accepted table the lists chosen have room for each assembly, and what is written is its label.
 -- Assumes nothing.
 use native.Mathlib.Omega.{arith}
-use Rattle.rings.proofs.Perceiving.{perceived-combinable, perceived-less, perceived-roomy}
+use Rattle.rings.proofs.Parting.{perceived-few, perceived-many}
 use Rattle.label.proofs.Labelling.{label-refused, label-written}
 use borrow.Author.Needs.{needs}
 use Rattle.label.proofs.label.Statement.{statement}
@@ -11,7 +11,7 @@ perceive-requires : tie.Need-perceive-requires
 perceive-requires c κs = search needs
 
 returns : tie.Need-returns
-returns c = label-refused (c .before .before .perceive .ensures) _ (omega arith)
+returns c = label-refused (c .before .perceive .ensures) _ (omega arith)
 
 frerejacque-requires : tie.Need-frerejacque-requires
 frerejacque-requires c κs = search needs
@@ -24,8 +24,8 @@ slice-aggregate-label-in-2 c = search needs
 
 label-in-requires : tie.Need-label-in-requires
 label-in-requires c κs =
-    let e = c .before .before .before .before .before .before .before .before .before .before .perceive .ensures in
-    (perceived-combinable e (omega arith), perceived-less e (omega arith) (omega arith), perceived-less e (omega arith) (omega arith))
+    let seen = c .before .before .before .before .before .before .before .before .before .perceive .ensures in
+    (perceived-few seen (omega arith) (omega arith), perceived-few seen (omega arith) (omega arith))
 
 same-length : tie.Need-same-length
 same-length c = search needs
@@ -33,7 +33,7 @@ same-length c = search needs
 returns-2 : tie.Need-returns-2
 returns-2 c =
     let f = c .before .before .before .before .before .before .before .before .before .before .before .before in
-    label-written (f .before .before .before .perceive .ensures) (omega arith) _ (f .frerejacque .ensures) (c .before .before .before .before .label-in .ensures)
+    label-written (f .before .before .perceive .ensures) (omega arith) _ (f .frerejacque .ensures) (c .before .before .before .before .label-in .ensures)
 
 slice-aggregate-label-in-3 : tie.Need-slice-aggregate-label-in-3
 slice-aggregate-label-in-3 c = search needs
@@ -43,35 +43,16 @@ slice-aggregate-label-in-4 c = search needs
 
 label-in-requires-2 : tie.Need-label-in-requires-2
 label-in-requires-2 c κs =
-    let e = c .before .before .before .before .before .before .before .before .before .before .before .before .perceive .ensures in
-    (perceived-combinable e (omega arith), perceived-less e (omega arith) (omega arith), perceived-less e (omega arith) (omega arith))
+    let seen = c .before .before .before .before .before .before .before .before .before .perceive .ensures in
+    (perceived-many seen (omega arith), perceived-many seen (omega arith))
 
 same-length-2 : tie.Need-same-length-2
 same-length-2 c = search needs
 
 returns-3 : tie.Need-returns-3
 returns-3 c =
-    let f = c .before .before .before .before .before .before .before .before .before .before .before .before .before .before in
-    label-written (f .before .before .before .perceive .ensures) (omega arith) _ (f .frerejacque .ensures) (c .before .before .before .before .label-in2 .ensures)
-
-slice-aggregate-label-in-5 : tie.Need-slice-aggregate-label-in-5
-slice-aggregate-label-in-5 c = search needs
-
-slice-aggregate-label-in-6 : tie.Need-slice-aggregate-label-in-6
-slice-aggregate-label-in-6 c = search needs
-
-label-in-requires-3 : tie.Need-label-in-requires-3
-label-in-requires-3 c κs =
-    let e = c .before .before .before .before .before .before .before .before .before .before .before .before .perceive .ensures in
-    (perceived-combinable e (omega arith), perceived-roomy e (omega arith), perceived-roomy e (omega arith))
-
-same-length-3 : tie.Need-same-length-3
-same-length-3 c = search needs
-
-returns-4 : tie.Need-returns-4
-returns-4 c =
-    let f = c .before .before .before .before .before .before .before .before .before .before .before .before .before .before in
-    label-written (f .before .before .before .perceive .ensures) (omega arith) _ (f .frerejacque .ensures) (c .before .before .before .before .label-in3 .ensures)
+    let f = c .before .before .before .before .before .before .before .before .before .before .before .before in
+    label-written (f .before .before .perceive .ensures) (omega arith) _ (f .frerejacque .ensures) (c .before .before .before .before .label-in2 .ensures)
 
 pub label-spec : {M : Type 1} → statement M
 label-spec =
@@ -89,9 +70,4 @@ label-spec =
     slice-aggregate-label-in-4
     label-in-requires-2
     same-length-2
-    returns-3
-    slice-aggregate-label-in-5
-    slice-aggregate-label-in-6
-    label-in-requires-3
-    same-length-3
-    returns-4)
+    returns-3)

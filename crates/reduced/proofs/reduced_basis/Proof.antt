@@ -25,7 +25,7 @@ assemblies-of-requires c κs = search needs
 reduce-all-requires : tie.Need-reduce-all-requires
 reduce-all-requires c κs =
     let parts = c .before .before .before .before .before in
-    let basis = parts .before .before in
+    let basis = parts .before .before .before .before in
     picked-fits (basis .basis-of .ensures) (parts .assemblies-of .ensures) (basis .before .before .before .before .before .args .out .now) (omega arith)
 
 same-length : tie.Need-same-length
@@ -34,7 +34,7 @@ same-length c = search needs
 returns-3 : tie.Need-returns-3
 returns-3 c =
     let parts = c .before .before .before .before .before .before .before .before in
-    let basis = parts .before .before in
+    let basis = parts .before .before .before .before in
     is-full _ _ (basis .before .before .refusal-of .ensures) (omega arith) (reducedBasis-counted _ (basis .basis-of .ensures .count)) (omega arith)
     (picked-reduced (basis .basis-of .ensures) (parts .assemblies-of .ensures) _ (c .before .before .reduce-all .ensures))
 

@@ -9,13 +9,13 @@ use Rattle.rings.proofs.perception.most_of.Statement.{statement}
 use Rattle.rings.proofs.perception.most_of.Tie as tie
 
 abbrev Inv-loop : tie.InvT-loop
-Inv-loop assemblies most₀ a₀ most a = Added assemblies most a
+Inv-loop members assemblies most₀ a₀ most a = Added members assemblies most a
 
 abbrev μ-loop : tie.MeasureT-loop
-μ-loop assemblies most₀ a₀ most a = assemblies .count - a
+μ-loop members assemblies most₀ a₀ most a = assemblies - a
 
 loop-holds : tie.Need-loop-holds Inv-loop μ-loop
-loop-holds c = added-none _
+loop-holds c = added-none _ _
 
 mul-of-word : tie.Need-mul-of-word Inv-loop μ-loop
 mul-of-word c = search needs

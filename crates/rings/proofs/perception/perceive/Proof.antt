@@ -28,16 +28,21 @@ refused-requires-2 c κs = search needs
 
 returns-2 : tie.Need-returns-2
 returns-2 c =
-    let at = c .before .before .before in
-    perceives-tangled (at .before .before .before .refusal-of .ensures) (omega arith) (at .before .basis-of .ensures) (at .assemblies-of .ensures) (c .before .before .tangled .ensures) (c .before .if2 .taken) (c .refused2 .ensures)
+    let at = c .before .before .before .before .before in
+    let held = at .before .before .before in
+    perceives-tangled (held .before .before .refusal-of .ensures) (omega arith) (held .basis-of .ensures) (at .assemblies-of .ensures) (c .before .before .tangled .ensures) (c .before .if2 .taken) (c .refused2 .ensures)
 
 most-of-requires : tie.Need-most-of-requires
-most-of-requires c κs = untangled-small (c .before .before .assemblies-of .ensures) (c .before .tangled .ensures) (c .if2 .left)
+most-of-requires c κs =
+    let test = c .before .before in
+    untangled-small (test .before .before .before .before .assemblies-of .ensures) (test .before .tangled .ensures) (test .if2 .left)
 
 returns-3 : tie.Need-returns-3
 returns-3 c =
-    let at = c .before .before .before in
-    perceives-all (at .before .before .before .refusal-of .ensures) (omega arith) (at .before .basis-of .ensures) (at .assemblies-of .ensures) (c .before .before .tangled .ensures) (c .before .if2 .left) (c .most-of .ensures)
+    let test = c .before .before .before in
+    let at = test .before .before .before .before in
+    let held = at .before .before .before in
+    perceives-all (held .before .before .refusal-of .ensures) (omega arith) (held .basis-of .ensures) (at .assemblies-of .ensures) (test .before .tangled .ensures) (test .if2 .left) (c .most-of .ensures)
 
 pub perceive-spec : {M : Type 1} → statement M
 perceive-spec =

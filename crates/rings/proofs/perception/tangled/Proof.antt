@@ -9,13 +9,13 @@ use Rattle.rings.proofs.perception.tangled.Statement.{statement}
 use Rattle.rings.proofs.perception.tangled.Tie as tie
 
 abbrev Inv-loop : tie.InvT-loop
-Inv-loop assemblies a₀ a = Untangled assemblies a
+Inv-loop members assemblies a₀ a = Untangled members assemblies a
 
 abbrev μ-loop : tie.MeasureT-loop
-μ-loop assemblies a₀ a = assemblies .count - a
+μ-loop members assemblies a₀ a = assemblies - a
 
 loop-holds : tie.Need-loop-holds Inv-loop μ-loop
-loop-holds c = untangled-none _
+loop-holds c = untangled-none _ _
 
 mul-of-word : tie.Need-mul-of-word Inv-loop μ-loop
 mul-of-word c = search needs

@@ -1,30 +1,29 @@
--- A search: before each turn no bond tried so far has the two atoms of one before it.
--- Assumes nothing.
-use mathlib.Core.Path.{_≡_}
+-- A search: before each turn each set holds the atoms that bonds below k join to its atom, and no bond tried so far has the two atoms of
+-- one before it. Assumes nothing.
+use mathlib.Core.Path.{_≡_, refl}
 use mathlib.Core.Bool.{false}
-use Prim.Native.Nat.{_≤_, _/_, _-_}
+use Prim.Native.Nat.{_/_, _-_}
 use native.Mathlib.Omega.{arith}
 use borrow.Author.Needs.{needs}
-use lib.ListN.{length}
+use lib.ListN.{length, getD-replicate}
+use Rattle.sets.specs.Atom.{noAtoms}
 use Rattle.definitions.specs.Search.{some?}
-use Rattle.definitions.specs.Table.{seenBefore?}
-use Rattle.definitions.proofs.Tests.{some-none, some-end}
+use Rattle.definitions.specs.Table.{maxAtoms, seenBefore?}
+use Rattle.definitions.proofs.Tests.{some-none, some-more, some-found, some-end}
 use Rattle.table.specs.Ends.{bondsAlone}
-use Rattle.table.proofs.Doubling.{doubled-found, doubled-more, rows-doubled}
+use Rattle.table.proofs.Bonding.{Neared, neared-none, neared-more}
+use Rattle.table.proofs.Doubling.{neared-seen}
 use Rattle.table.proofs.refusal.any_twice.Statement.{statement}
 use Rattle.table.proofs.refusal.any_twice.Tie as tie
 
 abbrev Inv-loop : tie.InvT-loop
-Inv-loop bonds rows k₀ k = (k ≤ length bonds / 2) × (some? k (seenBefore? (bondsAlone bonds)) ≡ false)
+Inv-loop bonds near₀ k₀ near k = Neared bonds near k × (some? k (seenBefore? (bondsAlone bonds)) ≡ false)
 
 abbrev μ-loop : tie.MeasureT-loop
-μ-loop bonds rows k₀ k = length bonds / 2 - k
-
-rows-requires : tie.Need-rows-requires Inv-loop μ-loop
-rows-requires c κs = search needs
+μ-loop bonds near₀ k₀ near k = length bonds / 2 - k
 
 loop-holds : tie.Need-loop-holds Inv-loop μ-loop
-loop-holds c = (search needs, some-none _)
+loop-holds c = (neared-none _ _ refl (λ a h. getD-replicate maxAtoms a noAtoms noAtoms h), some-none _)
 
 mul-end-at : tie.Need-mul-end-at Inv-loop μ-loop
 mul-end-at c = search needs
@@ -41,33 +40,50 @@ add-end-at c = search needs
 end-at-requires-2 : tie.Need-end-at-requires-2 Inv-loop μ-loop
 end-at-requires-2 c κs = search needs
 
-mul-without : tie.Need-mul-without Inv-loop μ-loop
-mul-without c = search needs
+mul-has : tie.Need-mul-has Inv-loop μ-loop
+mul-has c = search needs
 
-array-copy-out-without : tie.Need-array-copy-out-without Inv-loop μ-loop
-array-copy-out-without c = search needs
+array-copy-out-has : tie.Need-array-copy-out-has Inv-loop μ-loop
+array-copy-out-has c = search needs
 
-without-requires : tie.Need-without-requires Inv-loop μ-loop
-without-requires c κs = search needs
-
-mul-meets : tie.Need-mul-meets Inv-loop μ-loop
-mul-meets c = search needs
-
-array-copy-out-meets : tie.Need-array-copy-out-meets Inv-loop μ-loop
-array-copy-out-meets c = search needs
-
-meets-requires : tie.Need-meets-requires Inv-loop μ-loop
-meets-requires c κs = search needs
+has-requires : tie.Need-has-requires Inv-loop μ-loop
+has-requires c κs = search needs
 
 returns : tie.Need-returns Inv-loop μ-loop
 returns c =
-    let test = c .before in
-    let less = test .before .before in
-    let heads = less .before .before in
-    let head = heads .before .before .before in
-    let start = head .before .before .before in
-    let told = rows-doubled (start .args .bonds .now) (head .before .rows .result) (head .loop .k) (head .before .rows .ensures) (heads .before .end-at .ensures .0) (heads .end-at2 .ensures .0) (heads .before .end-at .ensures .1) (heads .end-at2 .ensures .1) (less .without .ensures) (test .meets .ensures) in
-    doubled-found (bondsAlone (start .args .bonds .now)) (omega arith) told (start .pre .1) (c .if1 .taken)
+    let ends = c .before .before .before in
+    let seen = neared-seen (ends .before .before .before .loop .inv .0) (ends .before .end-at .ensures .0) (ends .end-at2 .ensures .0) (ends .before .end-at .ensures .1) (c .before .has .ensures) in
+    some-found _ (omega arith) seen (c .if1 .taken)
+
+mul-with : tie.Need-mul-with Inv-loop μ-loop
+mul-with c = search needs
+
+array-copy-out-with : tie.Need-array-copy-out-with Inv-loop μ-loop
+array-copy-out-with c = search needs
+
+with-requires : tie.Need-with-requires Inv-loop μ-loop
+with-requires c κs = search needs
+
+mul-near : tie.Need-mul-near Inv-loop μ-loop
+mul-near c = search needs
+
+array-set-from-near : tie.Need-array-set-from-near Inv-loop μ-loop
+array-set-from-near c = search needs
+
+mul-with-2 : tie.Need-mul-with-2 Inv-loop μ-loop
+mul-with-2 c = search needs
+
+array-copy-out-with-2 : tie.Need-array-copy-out-with-2 Inv-loop μ-loop
+array-copy-out-with-2 c = search needs
+
+with-requires-2 : tie.Need-with-requires-2 Inv-loop μ-loop
+with-requires-2 c κs = search needs
+
+mul-near-2 : tie.Need-mul-near-2 Inv-loop μ-loop
+mul-near-2 c = search needs
+
+array-set-from-near-2 : tie.Need-array-set-from-near-2 Inv-loop μ-loop
+array-set-from-near-2 c = search needs
 
 add-k : tie.Need-add-k Inv-loop μ-loop
 add-k c = search needs
@@ -77,16 +93,16 @@ loop-less c = search needs
 
 loop-again : tie.Need-loop-again Inv-loop μ-loop
 loop-again c =
-    let test = c .before in
-    let less = test .before .before in
-    let heads = less .before .before in
-    let head = heads .before .before .before in
-    let start = head .before .before .before in
-    let told = rows-doubled (start .args .bonds .now) (head .before .rows .result) (head .loop .k) (head .before .rows .ensures) (heads .before .end-at .ensures .0) (heads .end-at2 .ensures .0) (heads .before .end-at .ensures .1) (heads .end-at2 .ensures .1) (less .without .ensures) (test .meets .ensures) in
-    (search needs, doubled-more (bondsAlone (start .args .bonds .now)) (omega arith) told (head .loop .inv .1) (c .if1 .left))
+    let test = c .before .before .before .before in
+    let ends = test .before .before .before in
+    let head = ends .before .before .before in
+    let seen = neared-seen (head .loop .inv .0) (ends .before .end-at .ensures .0) (ends .end-at2 .ensures .0) (ends .before .end-at .ensures .1) (test .before .has .ensures) in (
+      neared-more (head .loop .inv .0) (omega arith) (ends .before .end-at .ensures .0) (ends .end-at2 .ensures .0) (ends .before .end-at .ensures .1) (ends .end-at2 .ensures .1) (c .before .before .with .ensures) (c .with2 .ensures),
+      some-more _ (head .loop .inv .1) seen (test .if1 .left),
+    )
 
 returns-2 : tie.Need-returns-2 Inv-loop μ-loop
-returns-2 c = some-end _ (c .before .loop .inv .0) (c .loop-test .left) (c .before .loop .inv .1)
+returns-2 c = some-end _ (c .before .loop .inv .0 .within) (c .loop-test .left) (c .before .loop .inv .1)
 
 pub any-twice-spec : {M : Type 1} → statement M
 any-twice-spec =
@@ -94,20 +110,26 @@ any-twice-spec =
     (tie.spec
     Inv-loop
     μ-loop
-    rows-requires
     loop-holds
     mul-end-at
     end-at-requires
     mul-end-at-2
     add-end-at
     end-at-requires-2
-    mul-without
-    array-copy-out-without
-    without-requires
-    mul-meets
-    array-copy-out-meets
-    meets-requires
+    mul-has
+    array-copy-out-has
+    has-requires
     returns
+    mul-with
+    array-copy-out-with
+    with-requires
+    mul-near
+    array-set-from-near
+    mul-with-2
+    array-copy-out-with-2
+    with-requires-2
+    mul-near-2
+    array-set-from-near-2
     add-k
     loop-less
     loop-again

@@ -1,0 +1,34 @@
+-- The rings counted by size, assembly by assembly.
+-- Assumes nothing.
+use mathlib.Core.Path.{_≡_}
+use mathlib.Core.Logic.{_≢_}
+use mathlib.Core.Bool.{false}
+use mathlib.Core.List.{List, List·Memᴰ as In}
+use Prim.Native.Nat.{ℕ, _*_, _^_, _≤_, _<_}
+use lib.ListN.{getD}
+use Rattle.sets.specs.Bits.{size, meet}
+use Rattle.definitions.specs.Table.{maxBonds}
+use Rattle.definitions.specs.Assembly.{maxAssembly}
+use Rattle.basis.specs.Held.{picked}
+use Rattle.rings.specs.Gibbs.{combined, foundAt}
+
+-- no assembly has more sums of its basis rings
+abbrev pub mostInOne : ℕ
+mostInOne = 2 ^ maxAssembly
+
+-- and so many assemblies as there may be have no more
+abbrev pub mostInAll : ℕ
+mostInAll = maxBonds * mostInOne
+
+-- an assembly, given by the places of its basis rings: these are not too many, a list of m words has room for their sums, and nothing
+-- that the combination finds in it is empty
+pub record Alone (rings : List ℕ) (places m : ℕ) : Type 0 where
+  pub small : size places ≤ maxAssembly
+  pub room : 2 ^ size places ≤ m
+  pub some : (x : ℕ) → In x (combined (picked rings places)) → x ≢ 0
+
+-- the first n assemblies, given by their sets of basis rings: what is found in one shares no bond with what is found in another
+pub record Separate (rings members : List ℕ) (n m : ℕ) : Type 0 where
+  pub counted : n ≤ maxBonds
+  pub each : (a : ℕ) → a < n → Alone rings (getD members a 0) m
+  pub apart : (a b : ℕ) → a < b → b < n → (x y : ℕ) → In x (foundAt rings members a) → In y (foundAt rings members b) → meet x y ≡ false
