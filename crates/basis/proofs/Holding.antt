@@ -1,4 +1,4 @@
--- What is known of a Basis whose array is whole, how many rings it holds and which stands where, and of the sets of Assemblies.
+-- What is known of the rings of a Basis and of their assemblies, and of the sets of Assemblies.
 -- Assumes nothing.
 use mathlib.Core.Path.{_≡_, sym, ap, _∙_}
 use mathlib.Core.Bool.{Bool, _&&_}
@@ -8,11 +8,11 @@ use native.Mathlib.Omega.{arith}
 use borrow.Author.Tests.{lt-ltb, le-ltb}
 use lib.Dec.{eqb}
 use lib.ListN.{length, getD}
-use lib.Seq.{length-take-le, getD-take}
+use lib.Seq.{getD-take}
 use Rattle.sets.specs.Bits.{has, size}
 use Rattle.sets.specs.Ring.{room}
 use Rattle.definitions.specs.Search.{setOf}
-use Rattle.definitions.specs.Table.{Table, maxBonds}
+use Rattle.definitions.specs.Table.{Table}
 use Rattle.definitions.specs.Basis.{basisRings}
 use Rattle.definitions.specs.Assembly.{assembliesOf, assemblies, ringsIn}
 use Rattle.definitions.proofs.Lists.{has-setOf, size-setOf, listed-ext}
@@ -21,10 +21,6 @@ use Rattle.basis.specs.Held.{ringsOf, Counted, BasisOf, membersOf, picke
 use Rattle.basis.specs.declared.basis.Basis.{Basis}
 use Rattle.basis.specs.declared.assembly.Assemblies.{Assemblies}
 use Rattle.basis.proofs.Collecting.{listed-gap}
-
--- it holds as many rings as it counts
-pub rings-counted : (b : Basis) → length (b .rings) ≡ maxBonds → Counted b → length (ringsOf b) ≡ b .count
-rings-counted b long h = length-take-le (b .count) (b .rings) (omega arith)
 
 -- ring i is the set at place i
 pub ring-at : (b : Basis) (i : ℕ) → i < b .count → getD (b .rings) i 0 ≡ getD (ringsOf b) i 0

@@ -1,11 +1,11 @@
 // The assemblies of basis rings, as 000 finds them: the first ring left starts an assembly, and the rings left that share a bond with
 // it are added, until a pass over those left adds none.
-use super::basis::Basis;
 use sets::BondSet;
 use sets::RingSet;
 use table::MAX_BONDS;
 ghost use mathlib.Core.Path.{_≡_};
 ghost use mathlib.Core.Bool.{true};
+ghost use mathlib.Core.List.{List};
 ghost use Prim.Native.Nat.{ℕ, _≤_, _<_};
 ghost use lib.ListN.{length, getD, take};
 ghost use Rattle.sets.specs.Bits.{has};
@@ -15,7 +15,7 @@ ghost use Rattle.definitions.specs.Search.{setOf};
 ghost use Rattle.definitions.specs.Table.{maxBonds};
 ghost use Rattle.definitions.specs.Assembly.{assembliesOf};
 ghost use Rattle.definitions.specs.Answer.{over};
-ghost use Rattle.basis.specs.Held.{ringsOf, Counted, AssembliesOf};
+ghost use Rattle.basis.specs.Held.{AssembliesOf};
 ghost use Rattle.basis.specs.Clusters.{groupOf, joinedBy, Grouped, Apart, Pass, FirstWith};
 
 // The assemblies in order, each as the set of its basis rings: the first count words, each the word of a set.
@@ -132,14 +132,19 @@ fn assembly_with(members: &[u64; MAX_BONDS], count: usize, i: usize) -> usize
     a
 }
 
-// Writes the assembly of each basis ring over the start of a list.
-pub(crate) fn write_assemblies(basis: Basis, assemblies: Assemblies, out: &mut [u8])
-    requires { ⌜ Counted basis × AssembliesOf (ringsOf basis) assemblies × (length (assembliesOf (ringsOf basis)) ≤ length (now out)) ⌝ }
-    ensures { λ _. ⌜ now (out .exit) ≡ over (assembliesOf (ringsOf basis)) (now (out .entry)) ⌝ }
+// Writes the assembly of each of so many basis rings over the start of a list.
+pub(crate) fn write_assemblies(
+    rings: usize,
+    members: &[u64; MAX_BONDS],
+    assemblies: usize,
+    out: &mut [u8],
+)
+    requires { ⌜ (assemblies ≤ maxBonds) × (rings ≤ length (now out)) ⌝ }
+    ensures { λ _. ⌜ ((rs : List ℕ) → length rs ≡ rings → AssembliesOf rs (record { members = now (members .entry); count = assemblies }) → now (out .exit) ≡ over (assembliesOf rs) (now (out .entry))) ⌝ }
 {
     let mut i: usize = 0;
-    while i < basis.count {
-        out[i] = assembly_with(&assemblies.members, assemblies.count, i) as u8;
+    while i < rings {
+        out[i] = assembly_with(members, assemblies, i) as u8;
         i += 1;
     }
 }

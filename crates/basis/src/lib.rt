@@ -45,7 +45,8 @@ pub fn assemblies(atoms: u64, bonds: &[u8], out: &mut [u8]) -> Answer
             count: 0,
         };
     }
-    write_assemblies(basis, assemblies_of(&basis.rings, rings), out);
+    let found = assemblies_of(&basis.rings, rings);
+    write_assemblies(rings, &found.members, found.count, out);
     Answer {
         number: 0,
         count: rings,

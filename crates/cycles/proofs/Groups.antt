@@ -177,11 +177,6 @@ pub record InGroup (M : Table) (a i s : ℕ) : Type 0 where
   pub place : i < length (ringsIn (basisRings M) a)
   pub sum : SumOf (take i (ringsIn (basisRings M) a)) (bitXor s (getD (ringsIn (basisRings M) a) i 0))
 
--- it is made by adding the i-th to a sum of those before
-pub group-of-sum : (M : Table) (a i x : ℕ) → i < length (ringsIn (basisRings M) a) → SumOf (take i (ringsIn (basisRings M) a)) x
-    → InGroup M a i (bitXor x (getD (ringsIn (basisRings M) a) i 0))
-group-of-sum M a i x l r = record { place = l; sum = rw (xor-undo x (getD (ringsIn (basisRings M) a) i 0)) r }
-
 module _ {M : Table} (valid : Valid M) where
   -- each place is one of a closure bond
   group-found : (a i : ℕ) → i < length (ringsIn (basisRings M) a)

@@ -10,14 +10,14 @@ use native.Mathlib.Omega.{arith}
 use borrow.Author.Tests.{eqb-true, eqb-false, eq-eqb, ne-eqb, ltb-true, ltb-false, lt-ltb, le-ltb}
 use lib.Bits.{and-comm, and-self}
 use lib.Dec.{eqb, ltb}
-use lib.ListN.{length, getD, set, take, length-map, List·getD-map}
-use lib.Seq.{ext-getD, length-take-le, getD-take, getD-set-same, getD-set-other}
+use lib.ListN.{length, getD, length-map, List·getD-map}
+use lib.Seq.{ext-getD}
 use Rattle.sets.specs.Bits.{meet}
 use Rattle.definitions.specs.Search.{count, listed, gather, total}
 use Rattle.definitions.specs.Assembly.{share?, Linked, sharing, leaders, rank, assembliesOf, assemblyCount, ringsIn}
 use Rattle.definitions.specs.Assembly.Linked.{same, by as shares}
-use Rattle.definitions.proofs.Tests.{by, not-passed, not-failed}
-use Rattle.definitions.proofs.Lists.{gather-in, listed-in, count-zero, count-skip, count-take, count-lt, count-mono, count-find, count-none, count-all, length-listed, listed-ext, total-append, length-gather}
+use Rattle.definitions.proofs.Tests.{by, not-failed}
+use Rattle.definitions.proofs.Lists.{gather-in, listed-in, count-lt, count-mono, count-find, count-none, count-all, length-listed, listed-ext, total-append, length-gather}
 use Rattle.definitions.proofs.Classes.{Joined, here, forth, back, Within, classes-length, classes-joined, classes-least}
 
 -- ---- linked rings
@@ -201,48 +201,6 @@ assemblies-unique rs ns size together fresh = ext-getD 0 ns (assembliesOf rs) (s
     each i l =
         let f = leaders-first rs i l in
         to-leader i l f ∙ fresh (leader rs i) (omega (arith, f .low)) (eq-eqb (leader rs (leader rs i)) (leader rs i) (f .own)) ∙ sym (number-counts rs i)
-
--- ---- rings that are numbered one by one, as they are met
-
--- ns numbers the first k rings, and n assemblies have been met
-pub record Numbered (rs ns : List ℕ) (k n : ℕ) : Type 0 where
-  pub each : (i : ℕ) → i < k → getD ns i 0 ≡ number rs i
-  pub met : n ≡ count k (first? rs)
-
--- before any ring is met
-pub numbered-none : (rs ns : List ℕ) → Numbered rs ns 0 0
-numbered-none rs ns = record { each = λ i l. absurd (omega arith); met = sym (count-zero (first? rs)) }
-
--- one ring more, numbered x
-numbered-set : {rs ns : List ℕ} {k n : ℕ} (x m : ℕ) → Numbered rs ns k n → k < length ns → x ≡ number rs k → m ≡ count (k + 1) (first? rs) → Numbered rs (set ns k x) (k + 1) m
-numbered-set {rs} {ns} {k} x m h l e f =
-    record {
-      each = λ i u. by (eqb i k)
-          (λ t. rw (eqb-true i k t) (getD-set-same ns k x 0 l ∙ e))
-          (λ t. getD-set-other ns k i x 0 (eqb-false i k t) ∙ h .each i (omega (arith, eqb-false i k t)));
-      met = f;
-    }
-
--- ring k is linked with ring j before it: it gets j's number
-pub numbered-old : {rs ns : List ℕ} {k n j : ℕ} → Numbered rs ns k n → k < length rs → k < length ns → j < k → Linked rs k j → Numbered rs (set ns k (getD ns j 0)) (k + 1) n
-numbered-old {rs} {ns} {k} {n} {j} h l m i p =
-    numbered-set (getD ns j 0) n h m (h .each j i ∙ sym (linked-test rs k j l (omega arith) .1 p))
-    (h .met ∙ sym (count-skip (first? rs) k refl (not-passed (first? rs k) (λ e. first-test rs k l .0 e j i p))))
-
--- ring k is linked with none before it: it gets the next number
-pub numbered-new : {rs ns : List ℕ} {k n : ℕ} → Numbered rs ns k n → k < length rs → k < length ns → ((j : ℕ) → j < k → Linked rs k j → ⊥) → Numbered rs (set ns k n) (k + 1) (n + 1)
-numbered-new {rs} {ns} {k} {n} h l m none =
-    let e = first-test rs k l .1 none in
-    numbered-set n (n + 1) h m (h .met ∙ sym (number-first rs k e)) (omega (arith, h .met, count-take (first? rs) k refl e))
-
--- all rings are numbered
-pub numbered-all : {rs ns : List ℕ} {k n : ℕ} → Numbered rs ns k n → k ≡ length rs → length rs ≤ length ns → (take (length rs) ns ≡ assembliesOf rs) × (n ≡ assemblyCount rs)
-numbered-all {rs} {ns} {k} {n} h e l =
-    let size = length-take-le (length rs) ns l in (
-      ext-getD 0 (take (length rs) ns) (assembliesOf rs) (size ∙ sym (length-assemblies rs))
-          (λ i u. getD-take (length rs) ns i 0 (omega arith) ∙ h .each i (omega arith)),
-      h .met ∙ ap (λ (x : ℕ). count x (first? rs)) e ∙ sym (assembly-count rs),
-    )
 
 -- ---- assemblies that are numbered one by one
 

@@ -3,7 +3,7 @@
 use mathlib.Core.Path.{_≡_, refl, sym, ap, ap₂, _∙_}
 use mathlib.Core.Logic.{_↔_, _≢_, _⊎_, inl, inr, ⊎-elim}
 use mathlib.Core.Bool.{Bool, true, false, _&&_, _||_, cond, true≢false, false≢true, and-false, or-true, or-false}
-use mathlib.Core.List.{List, [], _∷_, _++_, map, map-append, append-nil, Memᴰ·append-left, Memᴰ·append-right, Memᴰ·cast, Memᴰ·of-map}
+use mathlib.Core.List.{List, [], _∷_, _++_, map, append-nil, Memᴰ·append-left, Memᴰ·append-right, Memᴰ·cast, Memᴰ·of-map}
 use mathlib.Core.List.{List·Memᴰ as In, List·Memᴰ·head as here, List·Memᴰ·tail as there, List·Memᴰ·not-nil as not-in-nil, List·Memᴰ·append-cases as in-append, List·Memᴰ·cases-cons as in-cons}
 use Prim.Native.Nat.{ℕ, zero, suc, _+_, _^_, _<_, _≤_}
 use native.Mathlib.Numerals.{add-one}
@@ -69,12 +69,6 @@ module _ {A : Type 0} where
   in-getD d (there m) = let r = in-getD d m in (suc (r .0), omega arith, r .2)
 
 module _ {A B : Type 0} (f : A → B) where
-  -- the value at a place of an image
-  pub getD-map : (l : List A) (i : ℕ) (d : A) (e : B) → i < length l → getD (map f l) i e ≡ f (getD l i d)
-  getD-map [] i d e h = absurd (omega arith)
-  getD-map (x ∷ l) zero d e h = refl
-  getD-map (x ∷ l) (suc i) d e h = getD-map l i d e (omega arith)
-
   -- maps that agree on the members have one image
   pub map-ext : (g : A → B) (l : List A) → ((x : A) → In x l → f x ≡ g x) → map f l ≡ map g l
   map-ext g [] h = refl
@@ -103,12 +97,6 @@ module _ {A : Type 0} where
   sorted-snoc sorted-none h = sorted-more (λ y i. absurd (not-in-nil i)) sorted-none
   sorted-snoc (sorted-more {x = y} {l} g s) h =
       sorted-more (λ z i. ⊎-elim (λ j. g z j) (λ e. rw e (h y (here refl))) (in-snoc l i)) (sorted-snoc s (λ z i. h z (there i)))
-
-  -- one more at the end that is no member
-  pub fresh-snoc : {l : List A} {x : A} → NoRepeats l → (In x l → ⊥) → NoRepeats (l ++ (x ∷ []))
-  fresh-snoc fresh-none h = fresh-more not-in-nil fresh-none
-  fresh-snoc (fresh-more {l} g s) h =
-      fresh-more (λ i. ⊎-elim g (λ e. h (here (sym e))) (in-snoc l i)) (fresh-snoc s (λ i. h (there i)))
 
 -- a member's place: what stands before it and after it
 pub in-split : {A : Type 0} {x : A} {l : List A} → In x l → (a : List A) × (c : List A) × (l ≡ a ++ (x ∷ c))
@@ -272,15 +260,6 @@ those-in n p k = (
   λ h. listed-has n p (λ x. x) k (h .0) (h .1),
 )
 
--- the image of what is listed is the list of the images
-pub listed-map : {A B : Type 0} (g : A → B) (n : ℕ) (p : ℕ → Bool) (f : ℕ → A) → map g (listed n p f) ≡ listed n p (λ k. g (f k))
-unfolding listed
-listed-map g zero p f = refl
-listed-map g (suc n) p f =
-    by (p n)
-    (λ h. ap (map g) (take p f n h) ∙ map-append g (listed n p f) (f n ∷ []) ∙ ap (λ l. l ++ (g (f n) ∷ [])) (listed-map g n p f) ∙ sym (take p (λ k. g (f k)) n h))
-    (λ h. ap (map g) (skip p f n h) ∙ listed-map g n p f ∙ sym (skip p (λ k. g (f k)) n h))
-
 -- lists of tests that agree, and of values that agree where the tests pass
 pub listed-ext : {A : Type 0} (n : ℕ) (p q : ℕ → Bool) (f g : ℕ → A) → ((k : ℕ) → k < n → p k ≡ q k) → ((k : ℕ) → k < n → p k ≡ true → f k ≡ g k) → listed n p f ≡ listed n q g
 unfolding listed
@@ -330,17 +309,6 @@ those-rising n p = listed-sorted ltb n p (λ k. k) (λ i j l m s t. lt-ltb i j l
 pub those-fresh : (n : ℕ) (p : ℕ → Bool) → NoRepeats (those n p)
 those-fresh n p = sorted-fresh (λ x. le-ltb x x (le-refl x)) (those-rising n p)
 
--- different values of what passes are listed without repeats
-pub listed-fresh : {A : Type 0} (n : ℕ) (p : ℕ → Bool) (f : ℕ → A)
-    → ((i j : ℕ) → i < j → j < n → p i ≡ true → p j ≡ true → f i ≢ f j) → NoRepeats (listed n p f)
-unfolding listed
-listed-fresh zero p f h = fresh-none
-listed-fresh (suc n) p f h =
-    let ih = listed-fresh n p f (λ i j l m. h i j l (omega arith)) in
-    by (p n)
-    (λ t. rw (take p f n t) (fresh-snoc ih (λ i. let r = listed-in n p f (f n) .0 i in h (r .0) n (r .1) (omega arith) (r .2) t (r .3))))
-    (λ t. rw (skip p f n t) ih)
-
 -- ---- the set of the numbers that pass
 
 -- below n or at n is below n + 1
@@ -385,10 +353,6 @@ setOf-take p k e h = rw add-one (set-take k p (sym e ∙ h))
 -- a set below 2 ^ n with these members is this set
 pub setOf-is : (n : ℕ) (p : ℕ → Bool) (s : ℕ) → s < 2 ^ n → ((k : ℕ) → k < n → has s k ≡ p k) → s ≡ setOf n p
 setOf-is n p s l h = ext s (setOf n p) (λ k. by (ltb k n) (λ t. h k (ltb-true k n t) ∙ sym (has-setOf n p k ∙ ap (λ (b : Bool). b && p k) t)) (λ t. has-above n k l (ltb-false k n t) ∙ sym (has-setOf n p k ∙ ap (λ (b : Bool). b && p k) t)))
-
--- tests that agree below n make one set
-pub setOf-ext : (n : ℕ) (p q : ℕ → Bool) → ((k : ℕ) → k < n → p k ≡ q k) → setOf n p ≡ setOf n q
-setOf-ext n p q h = setOf-is n q (setOf n p) (setOf-lt n p) (λ k l. has-setOf n p k ∙ ap (λ (b : Bool). b && p k) (lt-ltb k n l) ∙ h k l)
 
 -- its size is how many pass
 pub size-setOf : (n : ℕ) (p : ℕ → Bool) → size (setOf n p) ≡ count n p
@@ -439,12 +403,6 @@ pub gather-mono : {A : Type 0} (f : ℕ → List A) (k n : ℕ) → k ≤ n → 
 unfolding gather
 gather-mono f k n h =
     le-ind (λ m. length (gather k f) ≤ length (gather m f)) (le-refl (length (gather k f))) (λ m (l : k ≤ m) ih. omega (arith, length-append (gather m f) (f m))) n h
-
--- the image of what is gathered is gathered from the images
-pub gather-map : {A B : Type 0} (g : A → B) (n : ℕ) (f : ℕ → List A) → map g (gather n f) ≡ gather n (λ k. map g (f k))
-unfolding gather
-gather-map g zero f = refl
-gather-map g (suc n) f = map-append g (gather n f) (f n) ∙ ap (λ l. l ++ map g (f n)) (gather-map g n f)
 
 -- lists of one each are a list of all
 pub gather-ones : {A : Type 0} (n : ℕ) (f : ℕ → A) → gather n (λ k. f k ∷ []) ≡ listed n (λ k. true) f

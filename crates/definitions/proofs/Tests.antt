@@ -122,13 +122,6 @@ every-fails (suc n) p e =
     (λ h. let r = every-fails n p (rw (h, every) at e) in (r .0, omega arith, r .2))
     (λ h. (n, omega arith, h))
 
--- of tests that agree below n every number passes both, or not
-pub every-ext : (n : ℕ) (p q : ℕ → Bool) → ((k : ℕ) → k < n → p k ≡ q k) → every n p ≡ every n q
-every-ext n p q h =
-    same-test (every n p) (every n q)
-    (λ e. every-of n q (λ k l. sym (h k l) ∙ every-at n p e k l))
-    (λ e. every-of n p (λ k l. h k l ∙ every-at n q e k l))
-
 -- of tests that agree below n both find one, or neither
 pub some-ext : (n : ℕ) (p q : ℕ → Bool) → ((k : ℕ) → k < n → p k ≡ q k) → some? n p ≡ some? n q
 some-ext n p q h =
@@ -155,26 +148,6 @@ module _ (p : ℕ → Bool) where
   -- none is found up to the last: none is found
   pub some-end : {n k : ℕ} → k ≤ n → n ≤ k → some? k p ≡ false → false ≡ some? n p
   some-end l g h = rw (le-antisymm g l) (sym h)
-
--- the same for a loop that goes on while every number passes
-module _ (p : ℕ → Bool) where
-  -- below 0 every number passes
-  pub every-none : every 0 p ≡ true
-  unfolding every
-  every-none = refl
-
-  -- every number passes up to n and the test at n passed: every one does up to n + 1
-  pub every-more : {n : ℕ} {r : Bool} → every n p ≡ true → r ≡ p n → r ≡ true → every (n + 1) p ≡ true
-  unfolding every
-  every-more h e here = rw (add-one, sym e ∙ here, every) h
-
-  -- the test at k failed: not every number passes
-  pub every-broken : {n k : ℕ} {r : Bool} → k < n → r ≡ p k → r ≡ false → false ≡ every n p
-  every-broken {n} {k} l e here = sym (not-passed (every n p) (λ t. true≢false (sym (every-at n p t k l) ∙ sym e ∙ here)))
-
-  -- every number passes up to the last: every one does
-  pub every-end : {n k : ℕ} → k ≤ n → n ≤ k → every k p ≡ true → true ≡ every n p
-  every-end l g h = rw (le-antisymm g l) (sym h)
 
 -- ---- what a test says
 

@@ -11,16 +11,15 @@ use Prim.Native.Nat.{ℕ, suc, _+_, _^_, _≤_, _<_}
 use native.Mathlib.Decide.{decLt, ℕ-discrete}
 use native.Mathlib.Omega.{arith}
 use lib.Bits.{bitXor, xor-self, xor-zero-r}
-use lib.ListN.{length, getD, set, take, replicate, length-replicate, getD-replicate, List·getD-eq-default}
+use lib.ListN.{length, getD, set, List·getD-eq-default}
 use lib.Seq.{getD-set-same, getD-set-other}
 use Rattle.sets.specs.Bits.{has, IsNext}
 use Rattle.sets.proofs.Laws.{xor-assoc, has-xor, has-zero, has-above, empty}
-use Rattle.definitions.specs.Smallest.{SumOf, taking}
+use Rattle.definitions.specs.Smallest.{SumOf}
 use Rattle.definitions.proofs.Tests.{clashes}
 use Rattle.definitions.proofs.Lists.{getD-in, in-getD, in-snoc, in-last}
 use Rattle.spans.proofs.Spans.{Span, none, skip, add, span-zero, span-eq, span-in, span-sum, span-sub, span-trans, xor-cancel, xor-undo}
 use Rattle.spans.proofs.Choice.{sum→span, span→sum}
-use Rattle.spans.proofs.Taking.{taking-nil, taking-leave-at, taking-keep-at}
 
 -- ---- the lowest member
 
@@ -218,10 +217,6 @@ kept-sums {kept} {taken} h x = (
   λ s. span→sum (span-trans (λ v i. sum→span (h .up v i)) (sum→span s)),
 )
 
--- the order of the sets taken does not matter
-pub kept-order : {kept taken us : List ℕ} → ((v : ℕ) → In v taken → In v us) → ((v : ℕ) → In v us → In v taken) → Kept kept taken → Kept kept us
-kept-order f g h = record { rows = h .rows; up = λ v i. h .up v (g v i); down = λ k. span→sum (span-sub f (sum→span (h .down k))) }
-
 -- nothing is taken where the empty set stands at every place
 pub kept-none : (kept : List ℕ) → ((k : ℕ) → k < length kept → getD kept k 0 ≡ 0) → Kept kept []
 kept-none kept h =
@@ -234,15 +229,6 @@ kept-none kept h =
     zero-at : (k : ℕ) → Dec (k < length kept) → getD kept k 0 ≡ 0
     zero-at k (yes l) = h k l
     zero-at k (no l) = List·getD-eq-default kept 0 (omega arith)
-
--- a kept set is subtracted: x and what is left still differ by a sum of sets taken
-pub kept-step : {kept taken : List ℕ} → Kept kept taken → (k x rest : ℕ) → Left taken x rest → Left taken x (bitXor rest (getD kept k 0))
-kept-step h k x rest l = left-less x rest (sum→span (h .down k)) l
-
--- and its lowest member rises above k
-pub kept-rises : {kept taken : List ℕ} {rest k : ℕ} → Kept kept taken → Lowest rest k → getD kept k 0 ≢ 0
-    → (j : ℕ) → j < k + 1 → has (bitXor rest (getD kept k 0)) j ≡ false
-kept-rises {k = k} h l n = lowest-rises l (h .rows k n)
 
 module _ {kept taken : List ℕ} {x rest : ℕ} (h : Kept kept taken) (r : Remainder kept x rest) where
   -- x and what is left differ by a sum of sets taken
@@ -309,25 +295,3 @@ module _ {kept taken : List ℕ} {x rest : ℕ} (h : Kept kept taken) (r : Remai
           back : (j : ℕ) → Dec (j ≡ k) → Span (taken ++ x ∷ []) (getD (set kept k rest) j 0)
           back j (yes e) = span-eq (at-k e) left-taken
           back j (no d) = span-eq (sym (set-elsewhere j d)) (span-sub (λ v i. Memᴰ·append-left (x ∷ []) i) (sum→span (h .down j)))
-
--- ---- the loop through a list
-
--- at its start nothing is taken, and the empty set is kept at every place
-pub kept-start : (n : ℕ) → Kept (replicate n 0) (taking [] [])
-kept-start n =
-    subst⁻¹ (Kept (replicate n 0)) (taking-nil [])
-    (kept-none (replicate n 0) (λ k l. getD-replicate n k 0 0 (subst (λ (m : ℕ). k < m) (length-replicate n 0) l)))
-
--- a turn, at the set at place i
-module _ (xs : List ℕ) (i : ℕ) (b : i < length xs) {kept : List ℕ} {rest : ℕ}
-    (h : Kept kept (taking [] (take i xs))) (r : Remainder kept (getD xs i 0) rest) where
-  -- where nothing is left of it, it is passed over
-  pub kept-leave-at : rest ≡ 0 → (taking [] (take (i + 1) xs) ≡ taking [] (take i xs)) × Kept kept (taking [] (take (i + 1) xs))
-  kept-leave-at z = let e = taking-leave-at xs i b (kept-zero h r z) in (e, subst⁻¹ (Kept kept) e h)
-
-  -- where something is left, it is taken, and what is left is kept
-  pub kept-keep-at : {k : ℕ} → Lowest rest k → k < length kept
-      → (taking [] (take (i + 1) xs) ≡ taking [] (take i xs) ++ getD xs i 0 ∷ []) × Kept (set kept k rest) (taking [] (take (i + 1) xs))
-  kept-keep-at {k} low l =
-      let e = taking-keep-at xs i b (kept-left h r low) in
-      (e, subst⁻¹ (Kept (set kept k rest)) e (kept-more h r low l))

@@ -15,7 +15,7 @@ use lib.ListN.{length, take, getD, set, length-append, length-drop}
 use lib.Seq.{drop-cons, set-append-seam, take-all, take-suc, length-take-le}
 use Rattle.definitions.specs.Search.{count, listed}
 use Rattle.definitions.specs.Answer.{over}
-use Rattle.definitions.proofs.Lists.{length-snoc, count-skip, count-take, count-mono, count-le, listed-skip, listed-take, length-listed}
+use Rattle.definitions.proofs.Lists.{length-snoc, count-skip, count-take, count-mono, listed-skip, listed-take, length-listed}
 
 -- ---- the items over the start of a list
 
@@ -54,10 +54,6 @@ module _ {p : ℕ → Bool} {N n k : ℕ} (s : Counted p N n k) where
   -- a turn whose test gave true counts one
   pub counted-take : {r : Bool} → k < N → r ≡ p k → r ≡ true → Counted p N (n + 1) (k + 1)
   counted-take l e h = record { within = omega arith; number = rw (count-take p k e h) (omega (arith, s .number)) }
-
-  -- no more are counted than turns are done
-  pub counted-low : n ≤ N
-  counted-low = omega (arith, s .number, s .within, count-le p k)
 
   -- after the last turn all that pass are counted
   pub counted-all : N ≤ k → n ≡ count N p

@@ -1,6 +1,6 @@
 -- A refusal is handed on; the list is long enough or is refused; and each ring of the basis has its assembly written.
 -- Assumes nothing.
-use mathlib.Core.Path.{ap}
+use mathlib.Core.Path.{sym, ap, _∙_}
 use native.Mathlib.Omega.{arith}
 use lib.ListN.{length}
 use borrow.Author.Needs.{needs}
@@ -26,20 +26,18 @@ assemblies-of-requires : tie.Need-assemblies-of-requires
 assemblies-of-requires c κs = search needs
 
 write-assemblies-requires : tie.Need-write-assemblies-requires
-write-assemblies-requires c κs =
-    let at = c .before .before .before .before in
-    let held = at .before .basis-of .ensures in
-    (held .counted, c .before .assemblies-of .ensures, omega (arith, ap length (held-assemblies held), assemblies-counted held, at .if2 .left))
+write-assemblies-requires c κs = (c .before .before .before .assemblies-of .ensures .counted, omega (arith, c .before .before .before .before .before .before .if2 .left))
 
 same-length : tie.Need-same-length
 same-length c = search needs
 
 returns-3 : tie.Need-returns-3
 returns-3 c =
-    let at = c .before .before .before .before .before .before .before in
+    let parts = c .before .before .before .before .before .before in
+    let at = parts .before .before .before in
     let held = at .before .basis-of .ensures in
     is-full _ _ (at .before .before .before .refusal-of .ensures) (omega (arith, at .before .before .if1 .left)) (assemblies-counted held) (at .if2 .left)
-    (rw (held-assemblies held) at (c .before .before .write-assemblies .ensures))
+    (rw (held-assemblies held) at (c .before .before .write-assemblies .ensures _ (ap length (held .rings) ∙ sym (held .count)) (parts .assemblies-of .ensures)))
 
 pub assemblies-spec : {M : Type 1} → statement M
 assemblies-spec =
