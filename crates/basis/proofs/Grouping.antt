@@ -11,7 +11,7 @@ use borrow.Author.Tests.{eqb-true, eqb-false, eq-eqb, ltb-true, ltb-false}
 use lib.Bits.{bitOr}
 use lib.Dec.{eqb, ltb}
 use lib.ListN.{length, getD}
-use Rattle.sets.specs.Bits.{has, Sub, meet, put, with, without, IsNext, size}
+use Rattle.sets.specs.Bits.{has, Sub, meet, put, without, IsNext, size}
 use Rattle.sets.specs.Ring.{room}
 use Rattle.sets.proofs.Laws.{has-or, has-zero, has-with, has-without}
 use Rattle.sets.proofs.Size.{size-sub, sub-same}

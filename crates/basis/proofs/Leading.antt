@@ -5,17 +5,16 @@ use mathlib.Core.Logic.{_⊎_, inl, inr, ⊎-elim}
 use mathlib.Core.Bool.{false}
 use mathlib.Core.List.{List, []}
 use Prim.Native.Nat.{ℕ, _+_, _≤_, _<_, min, max}
-use native.Mathlib.Numerals.{add-one}
 use native.Mathlib.Omega.{arith}
 use lib.Bits.{bitXor}
 use lib.ListN.{length, getD, set}
 use lib.Seq.{getD-set-same, getD-set-other}
 use lib.Dec.{eqb}
-use borrow.Author.Tests.{eqb-true, eqb-false, eq-eqb, ne-eqb}
-use Rattle.definitions.specs.Table.{Table, tail, head, maxAtoms}
+use borrow.Author.Tests.{eqb-true, eqb-false}
+use Rattle.definitions.specs.Table.{Table, maxAtoms}
 use Rattle.definitions.specs.Basis.{classes, endsBelow, fragments}
 use Rattle.definitions.proofs.Tests.{by}
-use Rattle.definitions.proofs.Classes.{merged, label-none, label-pair}
+use Rattle.definitions.proofs.Classes.{merged, merged-other, merged-either, label-none}
 use Rattle.basis.specs.Climbing.{Falling, Climbed, Climbs}
 use Rattle.basis.specs.Climbing.Climbed.{start, on}
 
@@ -107,21 +106,6 @@ module _ {n : ℕ} {lower numbers : List ℕ} (s : Leads n lower numbers) {a x :
 
 -- ---- two fragments made one
 
--- the number of the higher of the first atoms x and y, of the lower one, and of any other atom
-merged-high : (x y : ℕ) → merged x y (max x y) ≡ min x y
-unfolding merged
-merged-high x y = rw (eq-eqb (max x y) (max x y) refl)
-
-merged-other : (x y z : ℕ) → (z ≡ max x y → ⊥) → merged x y z ≡ z
-unfolding merged
-merged-other x y z h = rw (ne-eqb z (max x y) h)
-
-merged-low : (x y : ℕ) → merged x y (min x y) ≡ min x y
-merged-low x y =
-    by (eqb (min x y) (max x y))
-    (λ e. ap (merged x y) (eqb-true (min x y) (max x y) e) ∙ merged-high x y)
-    (λ e. merged-other x y (min x y) (eqb-false (min x y) (max x y) e))
-
 -- the larger and the smaller of two are the two
 sides : (x y z : ℕ) → (z ≡ max x y) ⊎ (z ≡ min x y) → (z ≡ x) ⊎ (z ≡ y)
 sides x y z w =
@@ -142,33 +126,18 @@ module _ (lower : List ℕ) (x y : ℕ) (inside : max x y < length lower) where
     either z w = ⊎-elim (λ e. rw e (s .own x hx ex)) (λ e. rw e (s .own y hy ey)) (sides x y z w)
 
     -- both first atoms have the number of the lower one
-    next-high : getD next (max x y) 0 ≡ min x y
-    next-high = step (max x y) ∙ ap (merged x y) (either (max x y) (inl refl)) ∙ merged-high x y
-
-    next-low : getD next (min x y) 0 ≡ min x y
-    next-low = step (min x y) ∙ ap (merged x y) (either (min x y) (inr refl)) ∙ merged-low x y
+    next-low : (z : ℕ) → (z ≡ max x y) ⊎ (z ≡ min x y) → getD next z 0 ≡ min x y
+    next-low z w = step z ∙ ap (merged x y) (either z w) ∙ merged-either x y z (sides x y z w)
 
     -- the list leads by the numbers of the fragments that are one
     pub joined-leads : Leads n (set lower (max x y) (min x y)) next
     joined-leads = record {
       together = λ a h.
           by (eqb a (max x y))
-          (λ e. rw (eqb-true a (max x y) e, high) (next-low ∙ sym next-high))
+          (λ e. rw (eqb-true a (max x y) e, high) (next-low (min x y) (inr refl) ∙ sym (next-low (max x y) (inl refl))))
           (λ e. rw (other a e) (step (getD lower a 0) ∙ ap (merged x y) (s .together a h) ∙ sym (step a)));
       own = λ a h e.
           by (eqb a (max x y))
-          (λ t. rw (eqb-true a (max x y) t) (next-high ∙ sym high ∙ (rw (eqb-true a (max x y) t) at e)))
-          (λ t. step a ∙ ap (merged x y) (s .own a h (sym (other a t) ∙ e)) ∙ merged-other x y a (eqb-false a (max x y) t));
+          (λ t. rw (eqb-true a (max x y) t) (next-low (max x y) (inl refl) ∙ sym high ∙ (rw (eqb-true a (max x y) t) at e)))
+          (λ t. step a ∙ ap (merged x y) (s .own a h (sym (other a t) ∙ e)) ∙ merged-other x y a t);
     }
-
--- the fragments after one bond more
-pub fragments-more : (M : Table) (k a : ℕ) → getD (fragments M (k + 1)) a 0 ≡ merged (getD (fragments M k) (tail M k) 0) (getD (fragments M k) (head M k) 0) (getD (fragments M k) a 0)
-unfolding fragments endsBelow
-fragments-more M k a = rw add-one (label-pair (M .atoms) (tail M k, head M k) (endsBelow M k) a)
-
--- a fragment made one with itself stays
-pub merged-self : (x y z : ℕ) → x ≡ y → merged x y z ≡ z
-merged-self x y z e =
-    by (eqb z (max x y))
-    (λ t. ap (merged x y) (eqb-true z (max x y) t) ∙ merged-high x y ∙ omega (arith, eqb-true z (max x y) t))
-    (λ t. merged-other x y z (eqb-false z (max x y) t))

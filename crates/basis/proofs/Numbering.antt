@@ -1,17 +1,17 @@
 -- Why the assemblies are in order. The first ring left has the lowest number that is not yet used, and the cluster collected from it is
 -- the assembly of that number; where no ring is left all assemblies are found. Assumes nothing.
 use mathlib.Core.Path.{_≡_, refl, sym, ap, ap₂, _∙_}
-use mathlib.Core.Bool.{Bool, true, false, _&&_, not}
+use mathlib.Core.Bool.{Bool, true, false, _&&_, not, and-true}
 use mathlib.Core.List.{List}
-use Prim.Native.Nat.{ℕ, _+_, _≤_, _<_}
+use Prim.Native.Nat.{ℕ, _+_, _≤_, _<_, min}
 use native.Mathlib.Omega.{arith}
 use borrow.Author.Tests.{eqb-true, eqb-false, eq-eqb, ltb-true, ltb-false, lt-ltb, leb-true, leb-false, le-leb, ne-eqb, not-true}
 use lib.Dec.{eqb, ltb, leb}
 use lib.ListN.{length, getD, set, length-set}
 use lib.Seq.{getD-set-same, getD-set-other}
-use Rattle.sets.specs.Bits.{has, IsNext}
+use Rattle.sets.specs.Bits.{has, allBelow, IsNext}
 use Rattle.sets.specs.Ring.{room}
-use Rattle.sets.proofs.Laws.{ext}
+use Rattle.sets.proofs.Laws.{ext, has-all-below}
 use Rattle.sets.proofs.Members.{common, meet-of}
 use Rattle.definitions.specs.Search.{setOf}
 use Rattle.definitions.specs.Assembly.{share?, assemblyCount, Linked}
@@ -39,14 +39,15 @@ pub record Divided (rs : List ℕ) (sets : List ℕ) (n left : ℕ) : Type 0 whe
   pub rest : (i : ℕ) → has left i ≡ ltb i (length rs) && leb n (number rs i)
   pub blank : (a : ℕ) → n ≤ a → getD sets a 0 ≡ 0
 
-pub divided-none : (rs : List ℕ) (sets : List ℕ) {left : ℕ} → length sets ≡ room → ((a : ℕ) → getD sets a 0 ≡ 0) → left ≡ setOf (length rs) (λ i. true) → Divided rs sets 0 left
-divided-none rs sets e z l = record {
+-- at the start all rings are left
+pub divided-none : (rs : List ℕ) (sets : List ℕ) {left : ℕ} → length rs ≤ room → length sets ≡ room → ((a : ℕ) → getD sets a 0 ≡ 0) → left ≡ allBelow (min (length rs) room) → Divided rs sets 0 left
+divided-none rs sets few e z l = record {
   long = e;
   low = omega arith;
   found = λ a h. absurd (omega arith);
   rest = λ i.
-      ap (λ (s : ℕ). has s i) l ∙ has-setOf (length rs) (λ j. true) i
-      ∙ ap (λ (b : Bool). ltb i (length rs) && b) (sym (le-leb 0 (number rs i) (omega arith)));
+      let short : min (length rs) room ≡ length rs = omega arith in
+      rw (l, short, le-leb 0 (number rs i) (omega arith)) (has-all-below (length rs) i ∙ sym (and-true (ltb i (length rs))));
   blank = λ a h. z a;
 }
 

@@ -1,15 +1,13 @@
 -- A number put into a set of the numbers below m: it is a member where it is below m, and no other member comes or goes. Assumes nothing.
-use mathlib.Core.Path.{_≡_, refl, sym, ap, _∙_}
+use mathlib.Core.Path.{_≡_, sym}
 use mathlib.Core.Logic.{_⊎_, inl, inr, ⊎-elim}
-use mathlib.Core.Bool.{Bool, true}
-use Prim.Native.Nat.{ℕ, _+_, _<_}
+use mathlib.Core.Bool.{true}
+use Prim.Native.Nat.{ℕ, _<_}
 use borrow.Author.Tests.{ltb-true, ltb-false}
 use lib.Dec.{ltb}
-use Rattle.sets.specs.Bits.{has, with, put}
+use Rattle.sets.specs.Bits.{has, put}
 use Rattle.sets.proofs.Machine.{put-below, put-above}
-use Rattle.definitions.specs.Search.{setOf}
 use Rattle.definitions.proofs.Tests.{by}
-use Rattle.definitions.proofs.Lists.{setOf-take}
 use Rattle.definitions.proofs.Paths.{with-new, with-old, with-other}
 
 module _ (m s k : ℕ) where
@@ -27,13 +25,3 @@ module _ (m s k : ℕ) where
       by (ltb k m)
       (λ t. let l = ltb-true k m t in ⊎-elim inl (λ q. inr (sym q, l)) (with-other s k j (rw (put-below m s k l) at e)))
       (λ t. inl (rw (put-above m s k (ltb-false k m t)) at e))
-
--- ---- a set of numbers that is filled one by one
-
-pub setOf-none : (p : ℕ → Bool) → 0 ≡ setOf 0 p
-unfolding setOf
-setOf-none p = refl
-
--- k passes and is put into the set of those below it
-pub setOf-put : (m k : ℕ) (p : ℕ → Bool) {s r : ℕ} → k < m → p k ≡ true → s ≡ setOf k p → r ≡ put m s k → r ≡ setOf (k + 1) p
-setOf-put m k p {s} l h e q = q ∙ put-below m s k l ∙ ap (λ (x : ℕ). with x k) e ∙ sym (setOf-take p k refl h)

@@ -16,12 +16,13 @@ use Rattle.definitions.specs.Search.{listed}
 use Rattle.definitions.specs.Table.{Table, bonds, tail, head, maxAtoms}
 use Rattle.definitions.specs.Basis.{fragments, closure?, basisRing, basisRings}
 use Rattle.definitions.proofs.Tests.{by}
-use Rattle.definitions.proofs.Classes.{merged}
+use Rattle.definitions.proofs.Classes.{merged, merged-same}
+use Rattle.definitions.proofs.Paths.{fragments-more}
 use Rattle.definitions.proofs.Refusals.{Valid}
 use Rattle.basis.specs.Climbing.{Falling, Climbed, Climbs}
 use Rattle.basis.specs.Climbing.Climbed.{start, on}
 use Rattle.basis.specs.Held.{BasisOf}
-use Rattle.basis.proofs.Leading.{Leads, set-falling, leads-same, own-leads, climbed-low, climbs-number, settled-last, settled-leads, joined-leads, fragments-more, merged-self}
+use Rattle.basis.proofs.Leading.{Leads, set-falling, leads-same, own-leads, climbed-low, climbs-number, settled-last, settled-leads, joined-leads}
 use Rattle.basis.proofs.Ways.{Between, between-none, between-turn, between-sum, between-more, round-between, round-ring}
 use Rattle.basis.proofs.Collecting.{Collected, collected-skip, collected-take, collected-count}
 
@@ -146,7 +147,7 @@ module _ {M : Table} {lower ways rings : List ℕ} {n k : ℕ} (t : Tried M lowe
     atoms = t .atoms;
     places = t .places;
     falling = t .falling;
-    leads = leads-same (fragments M (k + 1)) (t .leads) (λ i. next i ∙ merged-self x y _ same);
+    leads = leads-same (fragments M (k + 1)) (t .leads) (λ i. next i ∙ merged-same x y _ same);
     known = λ i h. between-more (t .known i h);
     found = collected-take (t .found) (omega (arith, valid .few-bonds)) (sym closes ∙ eq-eqb x y same) (round-ring valid l tail-way head-way whole same);
   }

@@ -11,7 +11,6 @@ ghost use lib.ListN.{length, getD, take};
 ghost use Rattle.sets.specs.Bits.{has};
 ghost use Rattle.sets.specs.Bond.{bits as bondBits};
 ghost use Rattle.sets.specs.Ring.{bits as ringBits};
-ghost use Rattle.definitions.specs.Search.{setOf};
 ghost use Rattle.definitions.specs.Table.{maxBonds};
 ghost use Rattle.definitions.specs.Assembly.{assembliesOf};
 ghost use Rattle.definitions.specs.Answer.{over};
@@ -81,20 +80,6 @@ fn cluster_of(rings: &[u64; MAX_BONDS], count: usize, first: usize, left: RingSe
     cluster
 }
 
-// The set of the first count basis rings.
-fn rings_below(count: usize) -> RingSet
-    requires { ⌜ count ≤ maxBonds ⌝ }
-    ensures { λ r. ⌜ ringBits r ≡ setOf count (λ i. true) ⌝ }
-{
-    let mut rings = RingSet::EMPTY;
-    let mut i: usize = 0;
-    while i < count {
-        rings = rings.with(i);
-        i += 1;
-    }
-    rings
-}
-
 // The assemblies of the first basis rings of a list.
 pub fn assemblies_of(rings: &[u64; MAX_BONDS], count: usize) -> Assemblies
     requires { ⌜ (length (now rings) ≡ maxBonds) × (count ≤ maxBonds) ⌝ }
@@ -102,7 +87,7 @@ pub fn assemblies_of(rings: &[u64; MAX_BONDS], count: usize) -> Assemblies
 {
     let mut members = [0u64; MAX_BONDS];
     let mut assemblies: usize = 0;
-    let mut left = rings_below(count);
+    let mut left = RingSet::below(count);
     let mut first = left.next(0);
     while first < MAX_BONDS {
         let cluster = cluster_of(rings, count, first, left);

@@ -4,7 +4,7 @@
 -- joins to one of them. Assumes nothing.
 use mathlib.Core.Path.{_≡_, refl, sym, ap, _∙_}
 use mathlib.Core.Logic.{_↔_, _≢_}
-use mathlib.Core.Bool.{Bool, true, false, not, _&&_}
+use mathlib.Core.Bool.{Bool, true, false, _&&_}
 use mathlib.Core.List.{List, List·Memᴰ as In}
 use Prim.Native.Nat.{ℕ, _<_}
 use native.Mathlib.Nat.{pos-of-ne-zero}
@@ -20,7 +20,7 @@ use Rattle.definitions.specs.Ring.{Even, Ring}
 use Rattle.definitions.specs.Basis.{Closure, closure?, basisRing, basisRings}
 use Rattle.definitions.specs.Assembly.{Linked, Linked.same, Linked.by as linked-by, assembliesOf, ringsIn, assemblies}
 use Rattle.definitions.specs.Smallest.{chosen, SumOf}
-use Rattle.definitions.proofs.Tests.{by, eqb-self, and-both, both-and}
+use Rattle.definitions.proofs.Tests.{eqb-self, and-both, both-and}
 use Rattle.definitions.proofs.Lists.{length-listed, listed-in, has-unionOf}
 use Rattle.definitions.proofs.Refusals.{Valid}
 use Rattle.definitions.proofs.Paths.{closure-test}

@@ -12,15 +12,16 @@ use lib.Dec.{leb}
 use lib.ListN.{length, length-append, length-map}
 use borrow.Author.Tests.{leb-true}
 use Rattle.definitions.specs.Search.{every, listed, gather, total}
-use Rattle.definitions.specs.Table.{Table, bonds, maxBonds}
+use Rattle.definitions.specs.Table.{Table, maxBonds}
 use Rattle.definitions.specs.Ring.{Ring}
-use Rattle.definitions.specs.Basis.{closure?, basisRing, basisRings}
+use Rattle.definitions.specs.Basis.{basisRings}
 use Rattle.definitions.specs.Assembly.{assemblyCount, ringsIn, maxAssembly, tangled?}
 use Rattle.definitions.specs.AllRings.{allRings}
 use Rattle.definitions.proofs.Tests.{every-at}
-use Rattle.definitions.proofs.Lists.{fresh-length, count-le, length-listed, listed-ext, gather-in, total-append, length-gather}
+use Rattle.definitions.proofs.Lists.{fresh-length, listed-ext, gather-in, total-append, length-gather}
 use Rattle.definitions.proofs.Refusals.{Valid, tells-tangled}
 use Rattle.definitions.proofs.Rings.{all-rings-are, all-rings-fresh}
+use Rattle.definitions.proofs.Paths.{basis-at-most}
 use Rattle.definitions.proofs.Linking.{rings-total}
 use Rattle.spans.proofs.Spans.{xor-cancel, Span, none, skip, add}
 use Rattle.spans.proofs.Choice.{sum→span}
@@ -94,7 +95,8 @@ module _ {M : Table} (valid : Valid M) where
 
 -- ---- the number for tables that are not tangled
 
--- the most rings that a table can have whose assemblies have at most `maxAssembly` basis rings
+-- the most rings that a table can have whose assemblies have at most `maxAssembly` basis rings: k basis rings have 2 ^ k - 1 sums that are
+-- not empty, which is most for each of them where an assembly has as many as it may, and there are no more basis rings than bonds
 abbrev pub mostRings : ℕ
 mostRings = (2 ^ maxAssembly - 1) * maxBonds / maxAssembly
 
@@ -123,7 +125,6 @@ sums-share k l =
 
 -- so a table that is not tangled has no more rings than that
 pub all-rings-few : {M : Table} → Valid M → tangled? M ≡ false → length (allRings M) ≤ mostRings
-unfolding basisRings
 all-rings-few {M} valid t =
     let rs = basisRings M in
     let small = tells-tangled M .no-says t in
@@ -132,7 +133,6 @@ all-rings-few {M} valid t =
       all-rings-bound valid,
       total-share maxAssembly (2 ^ maxAssembly - 1) (assemblyCount rs) (λ a. 2 ^ length (ringsIn rs a) - 1) (λ a. length (ringsIn rs a)) (λ a l. sums-share (length (ringsIn rs a)) (small a l)),
       rings-total rs,
-      length-listed (bonds M) (closure? M) (basisRing M),
-      count-le (closure? M) (bonds M),
+      basis-at-most M,
       valid .few-bonds,
     )

@@ -6,7 +6,6 @@ use mathlib.Core.List.{List, map, List·Memᴰ as In}
 use Prim.Native.Nat.{ℕ}
 use lib.ListN.{length}
 use Rattle.sets.specs.Bits.{size}
-use Rattle.definitions.specs.Search.{total}
 use Rattle.definitions.specs.Table.{Table}
 use Rattle.definitions.specs.Basis.{basisRings}
 use Rattle.definitions.specs.AllRings.{allRings}

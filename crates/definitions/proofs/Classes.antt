@@ -67,7 +67,7 @@ unfolding merged
 merged-other x y z e = rw e
 
 -- both classes get the smaller number
-merged-either : (x y z : ℕ) → (z ≡ x) ⊎ (z ≡ y) → merged x y z ≡ min x y
+pub merged-either : (x y z : ℕ) → (z ≡ x) ⊎ (z ≡ y) → merged x y z ≡ min x y
 merged-either x y z w =
     by (eqb z (max x y)) (λ e. merged-max x y z (eqb-true z (max x y) e))
     (λ e. merged-other x y z e ∙ smaller w (eqb-false z (max x y) e))
@@ -76,6 +76,11 @@ merged-either x y z w =
     smaller (inl q) ne = omega arith
     smaller (inr q) ne = omega arith
 
+-- a class made one with itself stays
+pub merged-same : (x y z : ℕ) → x ≡ y → merged x y z ≡ z
+merged-same x y z e =
+    by (eqb z (max x y)) (λ t. let q = eqb-true z (max x y) t in merged-max x y z q ∙ omega arith) (λ t. merged-other x y z t)
+
 -- no number rises
 merged-le : (x y z : ℕ) → merged x y z ≤ z
 merged-le x y z =
@@ -83,7 +88,7 @@ merged-le x y z =
     (λ e. omega (arith, merged-other x y z e))
 
 -- each thing's number after the merging
-pub getD-merge : (e : ℕ × ℕ) (l : List ℕ) (i : ℕ) → getD (merge e l) i 0 ≡ merged (getD l (e .0) 0) (getD l (e .1) 0) (getD l i 0)
+getD-merge : (e : ℕ × ℕ) (l : List ℕ) (i : ℕ) → getD (merge e l) i 0 ≡ merged (getD l (e .0) 0) (getD l (e .1) 0) (getD l i 0)
 unfolding merge merged
 getD-merge e l i =
     let f = merged (getD l (e .0) 0) (getD l (e .1) 0) in

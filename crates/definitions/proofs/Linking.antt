@@ -16,7 +16,7 @@ use Rattle.sets.specs.Bits.{meet}
 use Rattle.definitions.specs.Search.{count, listed, gather, total}
 use Rattle.definitions.specs.Assembly.{share?, Linked, sharing, leaders, rank, assembliesOf, assemblyCount, ringsIn}
 use Rattle.definitions.specs.Assembly.Linked.{same, by as shares}
-use Rattle.definitions.proofs.Tests.{by, not-failed}
+use Rattle.definitions.proofs.Tests.{by, not-failed, below-next}
 use Rattle.definitions.proofs.Lists.{gather-in, listed-in, count-lt, count-mono, count-find, count-none, count-all, length-listed, listed-ext, total-append, length-gather}
 use Rattle.definitions.proofs.Classes.{Joined, here, forth, back, Within, classes-length, classes-joined, classes-least}
 
@@ -268,21 +268,13 @@ unfolding count
 count-two zero p q r h = refl
 count-two (suc n) p q r h = omega (arith, count-two n p q r (λ k l. h k (omega arith)), h n (omega arith))
 
--- below m + 1 is below m or m
-below-more : (x m : ℕ) → cond (ltb x (suc m)) 1 0 ≡ cond (ltb x m) 1 0 + cond (eqb x m) 1 0
-below-more x m =
-    by (ltb x m) (λ e. let l = ltb-true x m e in rw (e, lt-ltb x (suc m) (omega arith), ne-eqb x m (omega arith)))
-    (λ e. let l = ltb-false x m e in by (eqb x m)
-    (λ t. let q = eqb-true x m t in rw (e, t, lt-ltb x (suc m) (omega arith)))
-    (λ t. let q = eqb-false x m t in rw (e, t, le-ltb x (suc m) (omega arith))))
-
 -- numbers f i below m are each counted once, over all values below m
 count-values : (n m : ℕ) (f : ℕ → ℕ) → total (listed m (λ a. true) (λ a. count n (λ i. eqb (f i) a))) ≡ count n (λ i. ltb (f i) m)
 unfolding total listed
 count-values n zero f = sym (count-none (λ i. ltb (f i) 0) n (λ i l. le-ltb (f i) 0 (omega arith)))
 count-values n (suc m) f =
     total-append (listed m (λ a. true) (λ a. count n (λ i. eqb (f i) a))) (count n (λ i. eqb (f i) m) ∷ [])
-    ∙ omega (arith, count-values n m f, count-two n (λ i. ltb (f i) m) (λ i. eqb (f i) m) (λ i. ltb (f i) (suc m)) (λ i l. below-more (f i) m))
+    ∙ omega (arith, count-values n m f, count-two n (λ i. ltb (f i) m) (λ i. eqb (f i) m) (λ i. ltb (f i) (suc m)) (λ i l. below-next (f i) m 1))
 
 -- the assemblies hold all rings
 pub rings-total : (rs : List ℕ) → total (listed (assemblyCount rs) (λ a. true) (λ a. length (ringsIn rs a))) ≡ length rs

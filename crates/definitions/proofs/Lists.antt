@@ -20,6 +20,7 @@ use Rattle.sets.proofs.Size.{size-zero, size-with}
 use Rattle.definitions.specs.Search.{count, listed, those, setOf, gather, keep, total, unionOf}
 use Rattle.definitions.specs.Reduced.{same?}
 use Rattle.definitions.proofs.Tests.{by, same-test, and-both, or-one, eqb-self}
+pub use Rattle.definitions.specs.Search.{Sorted, sorted-none, sorted-more}
 
 -- ---- lists in general
 
@@ -81,11 +82,6 @@ module _ {A : Type 0} where
   pub data NoRepeats : List A → Type 0 where
     fresh-none : NoRepeats []
     fresh-more : {x : A} {l : List A} → (In x l → ⊥) → NoRepeats l → NoRepeats (x ∷ l)
-
-  -- each member stands before every later one
-  pub data Sorted (before : A → A → Bool) : List A → Type 0 where
-    sorted-none : Sorted before []
-    sorted-more : {x : A} {l : List A} → ((y : A) → In y l → before x y ≡ true) → Sorted before l → Sorted before (x ∷ l)
 
   -- a list in an order that nothing stands before itself in has no repeats
   pub sorted-fresh : {before : A → A → Bool} {l : List A} → ((x : A) → before x x ≡ false) → Sorted before l → NoRepeats l

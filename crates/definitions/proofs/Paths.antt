@@ -10,18 +10,18 @@ use native.Mathlib.Numerals.{add-one}
 use native.Mathlib.Omega.{arith}
 use borrow.Author.Tests.{eqb-true, eqb-false, eq-eqb, ltb-true, lt-ltb}
 use lib.Dec.{eqb, ltb}
-use lib.ListN.{getD}
+use lib.ListN.{length, getD}
 use Rattle.sets.specs.Bits.{has, with}
 use Rattle.sets.proofs.Laws.{ext, has-with, has-zero}
 use Rattle.definitions.specs.Search.{those}
 use Rattle.definitions.specs.Table.{Table, bonds, tail, head}
-use Rattle.definitions.specs.Basis.{Joins, Path, Closure, merge, classes, endsBelow, fragments, closure?, forest}
+use Rattle.definitions.specs.Basis.{Joins, Path, Closure, classes, endsBelow, fragments, closure?, forest, basisRing, basisRings}
 use Rattle.definitions.specs.Basis.Joins.{along, back}
 use Rattle.definitions.specs.Basis.Path.{stay, go}
 use Rattle.definitions.proofs.Tests.{by, or-one, clashes, not-passed, both-and, and-both, eqb-self}
-use Rattle.definitions.proofs.Lists.{has-setOf}
+use Rattle.definitions.proofs.Lists.{has-setOf, count-le, length-listed}
 use Rattle.definitions.proofs.Refusals.{Valid}
-use Rattle.definitions.proofs.Classes.{Joined, here, forth, back as backward, Within, joined-trans, classes-bond, classes-joined}
+use Rattle.definitions.proofs.Classes.{Joined, here, forth, back as backward, Within, joined-trans, merged, label-pair, classes-bond, classes-joined}
 
 -- ---- the two atoms of a bond
 
@@ -200,9 +200,9 @@ unfolding fragments endsBelow classes
 fragments-none M = refl
 
 -- bond k makes the fragments of its atoms one
-pub fragments-step : (M : Table) (k : ℕ) → fragments M (k + 1) ≡ merge (tail M k, head M k) (fragments M k)
-unfolding fragments endsBelow classes
-fragments-step M k = rw (add-one k)
+pub fragments-more : (M : Table) (k a : ℕ) → getD (fragments M (k + 1)) a 0 ≡ merged (getD (fragments M k) (tail M k) 0) (getD (fragments M k) (head M k) 0) (getD (fragments M k) a 0)
+unfolding fragments endsBelow
+fragments-more M k a = rw (add-one k) (label-pair (M .atoms) (tail M k, head M k) (endsBelow M k) a)
 
 -- the atoms of a bond below k are in one fragment
 pub fragment-ends : (M : Table) (k j : ℕ) → j < k → getD (fragments M k) (tail M j) 0 ≡ getD (fragments M k) (head M j) 0
@@ -231,6 +231,11 @@ module _ {M : Table} (v : Valid M) where
       let inside = v .inside k h in
       let w = fragments-way k (omega arith) (tail M k) (head M k) (inside .0) (inside .1) in
       (λ e. record { bond = h; path = w .0 (eqb-true _ _ e) }, λ c. eq-eqb _ _ (w .1 (c .path)))
+
+-- there are no more basis rings than bonds
+pub basis-at-most : (M : Table) → length (basisRings M) ≤ bonds M
+unfolding basisRings
+basis-at-most M = omega (arith, length-listed (bonds M) (closure? M) (basisRing M), count-le (closure? M) (bonds M))
 
 -- ---- the forest
 

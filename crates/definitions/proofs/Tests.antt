@@ -2,13 +2,13 @@
 -- what a test that is made of others says. Assumes nothing.
 use mathlib.Core.Path.{_≡_, refl, sym, _∙_}
 use mathlib.Core.Logic.{_↔_, _⊎_, inl, inr, ⊎-elim}
-use mathlib.Core.Bool.{Bool, true, false, _&&_, _||_, true≢false, false≢true}
+use mathlib.Core.Bool.{Bool, true, false, _&&_, _||_, cond, true≢false, false≢true}
 use Prim.Native.Nat.{ℕ, zero, suc, _+_, _<_, _≤_}
 use native.Mathlib.Numerals.{add-one}
 use native.Mathlib.Nat.{le-antisymm}
 use native.Mathlib.Omega.{arith}
 use lib.Dec.{leb, ltb, eqb}
-use borrow.Author.Tests.{leb-true, leb-false, ltb-true, ltb-false, eqb-true, eqb-false, eq-eqb}
+use borrow.Author.Tests.{leb-true, leb-false, ltb-true, ltb-false, lt-ltb, le-ltb, eqb-true, eqb-false, eq-eqb, ne-eqb}
 use Rattle.definitions.specs.Search.{every, some?}
 
 -- by cases of a test, with its equation
@@ -58,6 +58,15 @@ or-neither false b e = (refl, e)
 -- a number is itself, as a test
 pub eqb-self : (n : ℕ) → eqb n n ≡ true
 eqb-self n = eq-eqb n n refl
+
+-- what counts k where x is below m + 1 counts it where x is below m, or m
+pub below-next : (x m k : ℕ) → cond (ltb x (suc m)) k 0 ≡ cond (ltb x m) k 0 + cond (eqb x m) k 0
+below-next x m k =
+    by (ltb x m)
+    (λ t. let l = ltb-true x m t in rw (t, lt-ltb x (suc m) (omega arith), ne-eqb x m (omega arith)) (omega arith))
+    (λ t. let l = ltb-false x m t in by (eqb x m)
+    (λ e. let q = eqb-true x m e in rw (t, e, lt-ltb x (suc m) (omega arith)) (omega arith))
+    (λ e. let q = eqb-false x m e in rw (t, e, le-ltb x (suc m) (omega arith)) (omega arith)))
 
 -- ---- each number below n, some number below n
 

@@ -6,7 +6,7 @@ use mathlib.Core.List.{List, [], _∷_, _++_}
 use Prim.Native.Nat.{ℕ, zero, suc}
 use lib.ListN.{length, drop}
 use lib.Dec.{leb}
-use Rattle.definitions.specs.Table.{Table, firstOf, tableTests, refusal, TANGLED, ROOM}
+use Rattle.definitions.specs.Table.{Table, firstOf, tableTests, TANGLED, ROOM}
 use Rattle.definitions.specs.Assembly.{tangled?}
 
 -- the number, the count, and the lent list as it is left

@@ -1,18 +1,16 @@
 -- The three demands as theorems over the contracts of this crate's functions. Assumes nothing.
 use mathlib.Core.Path.{_≡_, refl, sym, ap, ap₂, subst, subst₂, _∙_}
-use mathlib.Core.Logic.{_≢_}
 use mathlib.Core.List.{List, List·Memᴰ as In}
-use Prim.Native.Nat.{ℕ, zero, suc, _≤_, _<_}
+use Prim.Native.Nat.{ℕ}
+use native.Mathlib.Omega.{arith}
 use lib.ListN.{length, getD, take, drop}
 use lib.Seq.{take-append-seam, drop-append-seam}
-use borrow.Author.Tests.{le-leb, lt-leb}
-use Rattle.definitions.specs.Table.{Table, refusal, ROOM}
+use Rattle.definitions.specs.Table.{Table, refusal}
 use Rattle.definitions.specs.Basis.{BasisRing, basisRings}
 use Rattle.definitions.specs.Assembly.{assemblies}
 use Rattle.definitions.specs.AllRings.{allRings}
 use Rattle.definitions.specs.Smallest.{smallestBasis}
-use Rattle.definitions.specs.Label.{labelOf}
-use Rattle.definitions.specs.Answer.{Outcome, outcomeOf, outcome, over, refusalOfRings}
+use Rattle.definitions.specs.Answer.{Outcome, outcomeOf, over}
 use Rattle.definitions.proofs.Lists.{in-getD, getD-in}
 use Rattle.definitions.proofs.Refusals.{Valid, accepted}
 use Rattle.definitions.proofs.Linking.{linked-test, length-assemblies}
@@ -20,9 +18,10 @@ use Rattle.definitions.proofs.Rings.{all-rings-are, all-rings-sorted}
 use Rattle.cycles.proofs.BasisRings.{basis-ring-reads}
 use Rattle.cycles.proofs.BasisList.{placeOf, place-lt, place-ring, place-find}
 use Rattle.cycles.proofs.Smallest.{smallest-basis-theorem}
-use Rattle.renumbering.specs.Renumbered.{Renumbered, InRange, Agree}
+use Rattle.renumbering.specs.Renumbered.{Agree}
 use Rattle.renumbering.proofs.Label.{label-of-renumbered}
-use Rattle.foliocrane.specs.Demands.{Contract, Answered, Exactly}
+use Rattle.table.proofs.Answers.{is-refused, is-short, is-full}
+use Rattle.foliocrane.specs.Demands.{Contract, Answered, Exactly, SameLabel}
 
 -- a contract permits one answer only
 pub one-answer : (c : ℕ) (wanted lent : List ℕ) {n k n′ k′ : ℕ} {l l′ : List ℕ} → Contract c wanted lent n k l → Contract c wanted lent n′ k′ l′
@@ -34,21 +33,6 @@ one-answer c wanted lent h g = h ∙ sym g
 -- equal answers have equal numbers, counts and lists
 same-parts : {n k n′ k′ : ℕ} {l l′ : List ℕ} → outcomeOf n k l ≡ outcomeOf n′ k′ l′ → (n ≡ n′) × (k ≡ k′) × (l ≡ l′)
 same-parts e = (ap (λ (o : Outcome). o .number) e, ap (λ (o : Outcome). o .count) e, ap (λ (o : Outcome). o .list) e)
-
--- what a refused call answers
-when-refused : (c : ℕ) (wanted lent : List ℕ) → c ≢ 0 → outcome c wanted lent ≡ outcomeOf c 0 lent
-unfolding outcome
-when-refused zero wanted lent n = absurd (n refl)
-when-refused (suc c) wanted lent n = refl
-
--- what an accepted call answers, with too little room and with enough
-when-short : (wanted lent : List ℕ) → length lent < length wanted → outcome 0 wanted lent ≡ outcomeOf ROOM 0 lent
-unfolding outcome
-when-short wanted lent l = rw (lt-leb (length wanted) (length lent) l)
-
-when-full : (wanted lent : List ℕ) → length wanted ≤ length lent → outcome 0 wanted lent ≡ outcomeOf 0 (length wanted) (over wanted lent)
-unfolding outcome
-when-full wanted lent l = rw (le-leb (length wanted) (length lent) l)
 
 -- the items stand at the start, and the rest is as it was lent
 items-first : (wanted lent : List ℕ) → take (length wanted) (over wanted lent) ≡ wanted
@@ -63,14 +47,11 @@ rest-as-lent wanted lent = drop-append-seam wanted (drop (length wanted) lent)
 pub every-input-is-answered : (c : ℕ) (wanted lent : List ℕ) {n k : ℕ} {l : List ℕ} → Contract c wanted lent n k l → Answered c wanted lent n k l
 every-input-is-answered c wanted lent {n} {k} {l} h =
     record {
-      refused = λ some. same-parts (h ∙ when-refused c wanted lent some);
-      too-little-room = λ none short. same-parts (from none ∙ when-short wanted lent short);
-      accepted = λ none room. full (same-parts (from none ∙ when-full wanted lent room));
+      refused = λ some. same-parts (h ∙ sym (is-refused wanted lent {r = c} refl (omega arith)));
+      too-little-room = λ none short. same-parts (h ∙ sym (is-short wanted lent {r = c} refl (omega arith) refl short));
+      accepted = λ none room. full (same-parts (h ∙ sym (is-full wanted lent {r = c} refl (omega arith) refl room refl)));
     }
   where
-    from : c ≡ 0 → outcomeOf n k l ≡ outcome 0 wanted lent
-    from none = h ∙ ap (λ (d : ℕ). outcome d wanted lent) none
-
     full : (n ≡ 0) × (k ≡ length wanted) × (l ≡ over wanted lent) → (n ≡ 0) × (k ≡ length wanted) × (take k l ≡ wanted) × (drop k l ≡ drop k lent)
     full (number, counted, left) = (
       number,
@@ -111,9 +92,7 @@ answers-are-exact M e =
 
 -- ---- demand 3
 
--- "Two tables, ends in range, that differ only in atom numbers, bond order and which end comes first get the same label, byte for byte, or
--- the same refusal": two calls of the label function, whatever was lent, if only the rooms are equal
-pub label-does-not-depend-on-numbering : {M N : Table} → Renumbered M N → InRange M → (lent lent′ : List ℕ) → length lent ≡ length lent′
-    → {n k n′ k′ : ℕ} {l l′ : List ℕ} → Contract (refusalOfRings M) (labelOf M) lent n k l → Contract (refusalOfRings N) (labelOf N) lent′ n′ k′ l′
-    → Agree (outcomeOf n k l) (outcomeOf n′ k′ l′)
-label-does-not-depend-on-numbering r inside lent lent′ e h g = subst₂ Agree (sym h) (sym g) (label-of-renumbered r inside lent lent′ e)
+-- tables that differ only in their numbering get one label, or one refusal
+pub label-does-not-depend-on-numbering : (M N : Table) → SameLabel M N
+label-does-not-depend-on-numbering M N =
+    record { same-label = λ r inside lent lent′ e h g. subst₂ Agree (sym h) (sym g) (label-of-renumbered r inside lent lent′ e) }

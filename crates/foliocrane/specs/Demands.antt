@@ -5,15 +5,16 @@ use mathlib.Core.Logic.{_↔_, _≢_}
 use mathlib.Core.List.{List, List·Memᴰ as In}
 use Prim.Native.Nat.{ℕ, _≤_, _<_}
 use lib.ListN.{length, getD, take, drop}
-use Rattle.definitions.specs.Search.{count}
+use Rattle.definitions.specs.Search.{count, Sorted}
 use Rattle.definitions.specs.Table.{Table, ROOM}
 use Rattle.definitions.specs.Ring.{Ring}
 use Rattle.definitions.specs.Basis.{BasisRing, closure?}
-use Rattle.definitions.specs.Assembly.{Linked, assemblies}
+use Rattle.definitions.specs.Assembly.{Linked}
 use Rattle.definitions.specs.AllRings.{before}
 use Rattle.definitions.specs.Smallest.{SmallestBasis}
-use Rattle.definitions.specs.Answer.{outcomeOf, outcome}
-use Rattle.definitions.proofs.Lists.{Sorted}
+use Rattle.definitions.specs.Label.{labelOf}
+use Rattle.definitions.specs.Answer.{outcomeOf, outcome, refusalOfRings}
+use Rattle.renumbering.specs.Renumbered.{Renumbered, InRange, Agree}
 
 -- the contract of an entry that writes: c is the table's refusal, or 0; these items are wanted, and this list was lent
 abbrev pub Contract : ℕ → List ℕ → List ℕ → ℕ → ℕ → List ℕ → Type 0
@@ -40,3 +41,13 @@ pub record Exactly (M : Table) (basis together rings smallest : List ℕ) : Type
   pub all-rings : (s : ℕ) → In s rings ↔ Ring M s
   pub all-rings-order : Sorted before rings
   pub smallest-basis : SmallestBasis M smallest
+
+-- Demand 3: "Two tables, ends in range, that differ only in atom numbers, bond order and which end comes first get the same label, byte for
+-- byte, or the same refusal."
+pub record SameLabel (M N : Table) : Type 0 where
+  -- two calls for the label answer with the same number, count and bytes, whatever was lent, if only the rooms are equal
+  pub same-label : Renumbered M N → InRange M → (lent lent′ : List ℕ) → length lent ≡ length lent′
+      → {number written number′ written′ : ℕ} {left left′ : List ℕ}
+      → Contract (refusalOfRings M) (labelOf M) lent number written left
+      → Contract (refusalOfRings N) (labelOf N) lent′ number′ written′ left′
+      → Agree (outcomeOf number written left) (outcomeOf number′ written′ left′)

@@ -1,5 +1,5 @@
-// The library's face: every entry in one place, for Rattle, C, Rust and Python. Each takes any table, an atom count and two bytes a
-// bond, and has the contract of the entry that it calls: number, count and every element of the lent list, for every input.
+// The library's face: every entry in one place, for Rattle programs and, exported, for C and Rust. Each takes any table, an atom count and
+// two bytes a bond, and has the contract of the entry that it calls: number, count and every element of the lent list, for every input.
 // include/foliocrane.h declares them for C. What they promise together stands in specs/Demands.antt.
 use table::Answer;
 ghost use mathlib.Core.Path.{_≡_};

@@ -7,13 +7,13 @@ use Prim.Native.Nat.{ℕ, zero, suc, _<_, _≤_}
 use native.Mathlib.Omega.{arith}
 use lib.ListN.{length, take, drop}
 use lib.Seq.{take-at}
-use Rattle.definitions.specs.Table.{Table, bonds, maxBonds, refusal}
-use Rattle.definitions.specs.Basis.{basisRings, closure?, basisRing}
+use Rattle.definitions.specs.Table.{Table, maxBonds, refusal}
+use Rattle.definitions.specs.Basis.{basisRings}
 use Rattle.definitions.specs.Label.{bytesOfAll, field, sidecarTag, setBytes, sidecarOf}
 use Rattle.definitions.specs.Reduced.{reducedBasis}
 use Rattle.definitions.specs.Answer.{Outcome, outcomeOf, over, outcome}
-use Rattle.definitions.proofs.Lists.{count-le, length-listed}
 use Rattle.definitions.proofs.Refusals.{accepted}
+use Rattle.definitions.proofs.Paths.{basis-at-most}
 use Rattle.table.proofs.Answers.{is-refused, is-accepted, is-full}
 use Rattle.reduced.proofs.Assembled.{reducedBasis-counted}
 
@@ -53,9 +53,7 @@ module _ (wanted lent : List ℕ) where
 
 -- a table that is accepted has few basis rings
 pub few-basis-rings : (M : Table) → refusal M ≡ 0 → length (basisRings M) ≤ maxBonds
-unfolding basisRings
-few-basis-rings M e =
-    omega (arith, length-listed (bonds M) (closure? M) (basisRing M), count-le (closure? M) (bonds M), accepted M .0 e .few-bonds)
+few-basis-rings M e = omega (arith, basis-at-most M, accepted M .0 e .few-bonds)
 
 -- ---- the sidecar
 

@@ -12,7 +12,7 @@ use Rattle.definitions.specs.Search.{gather, unionOf, sort}
 use Rattle.definitions.specs.Table.{Table}
 use Rattle.definitions.specs.Assembly.{assemblyCount, ringsIn}
 use Rattle.definitions.specs.AllRings.{before}
-use Rattle.definitions.specs.Smallest.{taking}
+use Rattle.definitions.specs.Smallest.{taking, smallestBasis}
 use Rattle.definitions.specs.Label.{bytesOf, bytesOfAll, frerejacque, pairOf, assemblyPairs, labelOf}
 use Rattle.definitions.specs.Answer.{Outcome, outcomeOf, outcome, refusalOfRings}
 use Rattle.definitions.proofs.Lists.{gather-ext}
@@ -27,7 +27,7 @@ use Rattle.rings.specs.Gibbs.{foundIn}
 use Rattle.rings.specs.Sizes.{SizesOf}
 use Rattle.rings.specs.Perceiving.{Combinable, Perceives}
 use Rattle.rings.specs.declared.perception.Perceived.{Perceived}
-use Rattle.rings.proofs.Perceiving.{found-all, perceived, perceived-valid, perceived-rings, perceived-smallest, perceived-combinable, perceived-outcome}
+use Rattle.rings.proofs.Perceiving.{perceived, perceived-valid, perceived-found, perceived-combinable, perceived-outcome}
 use Rattle.label.specs.Pairs.{pairNamed, pairsNamed}
 use Rattle.label.specs.Text.{labelText, labelWith}
 use Rattle.label.proofs.Counting.{lines-histogram}
@@ -83,13 +83,11 @@ module _ {M : Table} {p : Perceived} (seen : Perceives M p) where
     -- the text of what is worked out of an accepted table is its label
     label-text : {number : ℕ} → number ≡ frerejacque M
         → labelWith number (sort before found) (pairsNamed (p .basis .rings) (p .assemblies .members) (p .assemblies .count)) ≡ labelOf M
-    unfolding labelWith labelOf
+    unfolding labelWith labelOf smallestBasis
     label-text e = rw (
-      found-all (perceived-combinable seen none),
+      perceived-found seen none,
       e,
       one-byte (frerejacque M) (frerejacque-low (perceived-valid seen none)),
-      perceived-smallest seen none,
-      perceived-rings seen none,
       assembly-pairs M (perceived seen none .basis) (perceived-combinable seen none),
     )
 

@@ -9,7 +9,6 @@ use native.Mathlib.Nat.{le-antisymm}
 use native.Mathlib.Omega.{arith}
 use lib.Dec.{leb}
 use Rattle.sets.specs.Bits.{size}
-use Rattle.definitions.specs.Search.{keep}
 use Rattle.definitions.specs.Table.{Table, bonds}
 use Rattle.definitions.specs.Ring.{Even}
 use Rattle.definitions.specs.AllRings.{allRings}

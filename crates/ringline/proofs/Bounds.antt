@@ -15,13 +15,12 @@ use Rattle.sets.proofs.Upto.{upto-all, size-upto-le}
 use Rattle.definitions.specs.Search.{gather}
 use Rattle.definitions.specs.Table.{Table, bonds, maxBonds}
 use Rattle.definitions.specs.Ring.{Ring}
-use Rattle.definitions.specs.Basis.{basisRing, basisRings, closure?}
 use Rattle.definitions.specs.AllRings.{allRings}
 use Rattle.definitions.specs.Smallest.{smallestBasis}
 use Rattle.definitions.specs.Label.{field, bytesOfAll, occurs, histogram, frerejacque, assemblyPairs, labelOf, frerejacqueTag, ringsTag, smallestTag, assembliesTag}
-use Rattle.definitions.proofs.Lists.{count-le, length-listed}
 use Rattle.definitions.proofs.Sorting.{occurs-absent}
 use Rattle.definitions.proofs.Rings.{all-rings-are}
+use Rattle.definitions.proofs.Paths.{basis-at-most}
 use Rattle.spans.proofs.Taking.{taking-in}
 use Rattle.label.specs.Sizes.{line}
 use Rattle.label.proofs.Bytes.{length-bytesOfAll}
@@ -63,8 +62,7 @@ ring-size M s r = (
 
 -- there are no more assemblies than bonds
 assemblies-most : (M : Table) → length (assemblyPairs M) ≤ bonds M
-unfolding basisRings
-assemblies-most M = omega (arith, pairs-at-most M, length-listed (bonds M) (closure? M) (basisRing M), count-le (closure? M) (bonds M))
+assemblies-most M = omega (arith, pairs-at-most M, basis-at-most M)
 
 -- the smallest basis is taken from all rings
 taken : (M : Table) (s : ℕ) → In s (smallestBasis M) → In s (allRings M)

@@ -92,11 +92,11 @@ pub combined-sum : (l : List ℕ) (x : ℕ) → In x (combined l) → SumOf l x
 combined-sum l x i = span→sum (sums-in l x .0 (found-sums (0 ∷ []) [] l i))
 
 -- no two of the old sets differ by a sum of the list
-abbrev Separate : List ℕ → List ℕ → Type 0
-Separate olds l = (o u : ℕ) → In o olds → In u olds → Span l (bitXor o u) → o ≡ u
+abbrev Unsummed : List ℕ → List ℕ → Type 0
+Unsummed olds l = (o u : ℕ) → In o olds → In u olds → Span l (bitXor o u) → o ≡ u
 
 -- the sums of an independent list are different
-sums-fresh : (olds : List ℕ) {l : List ℕ} → Indep l → NoRepeats olds → Separate olds l → NoRepeats (sumsFrom olds l)
+sums-fresh : (olds : List ℕ) {l : List ℕ} → Indep l → NoRepeats olds → Unsummed olds l → NoRepeats (sumsFrom olds l)
 unfolding sumsFrom
 sums-fresh olds empty f sep = f
 sums-fresh olds (more {v = r} {vs = l} n d) f sep = sums-fresh (olds ++ group r olds) d (fresh-append f (fresh-map (bitXor r) f one) apart) both
@@ -113,7 +113,7 @@ sums-fresh olds (more {v = r} {vs = l} n d) f sep = sums-fresh (olds ++ group r 
     apart : (x : ℕ) → In x olds → In x (group r olds) → ⊥
     apart x i j = let (u, k, e) = Memᴰ·of-map (bitXor r) olds j in cross x u i k (span-eq (sym (ap (bitXor x) e ∙ xor-self x)) (span-zero l))
 
-    both : Separate (olds ++ group r olds) l
+    both : Unsummed (olds ++ group r olds) l
     both o u i j s = ⊎-elim (λ k. first k (in-append olds j)) (λ k. second k (in-append olds j)) (in-append olds i)
       where
         first : In o olds → In u olds ⊎ In u (group r olds) → o ≡ u
@@ -135,17 +135,17 @@ abbrev groupOf : List ℕ → ℕ → List ℕ
 groupOf l i = group (getD l i 0) (sumsOf (take i l))
 
 -- what is found in it
-abbrev foundIn : List ℕ → ℕ → List ℕ
-foundIn l i = ringsAmong (combined (take i l)) (groupOf l i)
+abbrev foundOf : List ℕ → ℕ → List ℕ
+foundOf l i = ringsAmong (combined (take i l)) (groupOf l i)
 
 -- what is found is found group by group
-combined-groups : (l : List ℕ) (k : ℕ) → k ≤ length l → combined (take k l) ≡ gather k (foundIn l)
+combined-groups : (l : List ℕ) (k : ℕ) → k ≤ length l → combined (take k l) ≡ gather k (foundOf l)
 unfolding gather ringsFrom
 combined-groups l zero h = refl
 combined-groups l (suc k) h =
     ap combined (take-suc l k 0 h)
     ∙ rings-snoc (0 ∷ []) [] (take k l) (getD l k 0)
-    ∙ ap (λ m. m ++ foundIn l k) (combined-groups l k (omega arith))
+    ∙ ap (λ m. m ++ foundOf l k) (combined-groups l k (omega arith))
 
 -- the sets of the group are the sums of that basis ring and some before it
 group-in : (l : List ℕ) (i s : ℕ) → In s (groupOf l i) ↔ SumOf (take i l) (bitXor s (getD l i 0))
@@ -172,11 +172,11 @@ module _ {M : Table} (valid : Valid M) where
   rings a = ringsIn (basisRings M) a
 
   -- what is found before the i-th group is what is found in one before
-  found-before : (a i u : ℕ) → i < length (rings a) → In u (combined (take i (rings a))) ↔ ((j : ℕ) × (j < i) × In u (foundIn (rings a) j))
-  found-before a i u h = rw (combined-groups (rings a) i (omega arith)) (gather-in i (foundIn (rings a)) u)
+  found-before : (a i u : ℕ) → i < length (rings a) → In u (combined (take i (rings a))) ↔ ((j : ℕ) × (j < i) × In u (foundOf (rings a) j))
+  found-before a i u h = rw (combined-groups (rings a) i (omega arith)) (gather-in i (foundOf (rings a)) u)
 
   -- what is found in a group are its rings, by those of the groups before: a sum is kept where none of them is inside it
-  group-rings-upto : (n a i s : ℕ) → i < n → i < length (rings a) → In s (foundIn (rings a) i) ↔ (InGroup M a i s × Ring M s)
+  group-rings-upto : (n a i s : ℕ) → i < n → i < length (rings a) → In s (foundOf (rings a) i) ↔ (InGroup M a i s × Ring M s)
   group-rings-upto zero a i s b h = absurd (omega arith)
   group-rings-upto (suc n) a i s b h =
       let olds = combined (take i (rings a)) in
@@ -198,28 +198,28 @@ module _ {M : Table} (valid : Valid M) where
       )
 
   -- so what is found in a group are its rings
-  group-rings : (a i s : ℕ) → i < length (rings a) → In s (foundIn (rings a) i) ↔ (InGroup M a i s × Ring M s)
+  group-rings : (a i s : ℕ) → i < length (rings a) → In s (foundOf (rings a) i) ↔ (InGroup M a i s × Ring M s)
   group-rings a i s h = group-rings-upto (suc i) a i s (omega arith) h
 
   -- what is found in an assembly is found in its groups
-  by-groups : (a : ℕ) → combined (rings a) ≡ gather (length (rings a)) (foundIn (rings a))
+  by-groups : (a : ℕ) → combined (rings a) ≡ gather (length (rings a)) (foundOf (rings a))
   by-groups a = ap combined (sym (take-length (rings a))) ∙ combined-groups (rings a) (length (rings a)) (le-refl (length (rings a)))
 
   -- so they are the rings of its groups
   combined-in : (a s : ℕ) → In s (combined (rings a)) ↔ (((i : ℕ) × InGroup M a i s) × Ring M s)
   combined-in a s = (
-    λ m. let (i, h, j) = gather-in (length (rings a)) (foundIn (rings a)) s .0 (rw (by-groups a) at m) in
+    λ m. let (i, h, j) = gather-in (length (rings a)) (foundOf (rings a)) s .0 (rw (by-groups a) at m) in
         let (k, r) = group-rings a i s h .0 j in
         ((i, k), r),
     λ m. let ((i, k), r) = m in
-        rw (by-groups a) (gather-in (length (rings a)) (foundIn (rings a)) s .1 (i, k .place, group-rings a i s (k .place) .1 (k, r))),
+        rw (by-groups a) (gather-in (length (rings a)) (foundOf (rings a)) s .1 (i, k .place, group-rings a i s (k .place) .1 (k, r))),
   )
 
   -- each once: the sums of a group are different, and no set is in two groups
   combined-fresh : (a : ℕ) → NoRepeats (combined (rings a))
   combined-fresh a =
       subst⁻¹ NoRepeats (by-groups a)
-      (fresh-gather (length (rings a)) (foundIn (rings a)) (λ i h. fresh-keep (clear? (combined (take i (rings a)))) (different i))
+      (fresh-gather (length (rings a)) (foundOf (rings a)) (λ i h. fresh-keep (clear? (combined (take i (rings a)))) (different i))
       (λ i j s l h p q.
       let (k, _) = group-rings a i s (omega arith) .0 p in
       let (m, _) = group-rings a j s h .0 q in

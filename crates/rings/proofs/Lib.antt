@@ -4,12 +4,12 @@
 --     Turns        the basis rings of an assembly in turn, each with its group
 --     Exactly      what the combination finds in all assemblies is exactly the rings
 --     Sizing       how many sets have each size, and where the part of each size starts
---     Placing      a ring put at its place among those of its size
+--     Placing      a word put at its place among words that rise
 --     Ordering     a list ordered by size, part by part
 --     Ranking      the rings put one after another into the parts of their sizes
 --     Selecting    the smallest basis by elimination
---     Tallying     the rings counted by size, assembly by assembly
 --     Perceiving   what is worked out of a table: the assemblies one after another, and each answer
+--     Tallying     the rings counted by size, assembly by assembly
 --     Parting      what is found in one assembly of a table shares no bond with what is found in another
 pub mod Appending
 pub mod Combining
@@ -20,6 +20,6 @@ pub mod Placing
 pub mod Ordering
 pub mod Ranking
 pub mod Selecting
-pub mod Tallying
 pub mod Perceiving
+pub mod Tallying
 pub mod Parting

@@ -3,7 +3,7 @@
 use mathlib.Core.Path.{_≡_, refl, sym, ap, subst, subst⁻¹, _∙_}
 use mathlib.Core.Bool.{Bool, true, false, cond}
 use mathlib.Core.List.{List, [], List·Memᴰ as In}
-use Prim.Native.Nat.{ℕ, suc, _+_, _-_, _*_, _%_, _^_, _<_, _≤_}
+use Prim.Native.Nat.{ℕ, zero, suc, _+_, _-_, _*_, _%_, _^_, _<_, _≤_}
 use native.Mathlib.Numerals.{add-one}
 use native.Mathlib.Nat.{le-antisymm, min-le-right}
 use native.Mathlib.Decide.{le-ind}
@@ -20,7 +20,7 @@ use Rattle.definitions.specs.Table.{Table, maxBonds, refusal, TANGLED}
 use Rattle.definitions.specs.Basis.{basisRings}
 use Rattle.definitions.specs.Assembly.{assemblyCount, ringsIn, maxAssembly, tangled?}
 use Rattle.definitions.specs.AllRings.{before, allRings}
-use Rattle.definitions.specs.Smallest.{taking, smallestBasis}
+use Rattle.definitions.specs.Smallest.{taking}
 use Rattle.definitions.specs.Answer.{Outcome, outcome, refusalOfRings}
 use Rattle.definitions.proofs.Tests.{none-at, some-ext, some-none, some-more, some-found, some-end}
 use Rattle.definitions.proofs.Lists.{listed-ext, gather-step, gather-zero, gather-ext, length-gather}
@@ -35,8 +35,8 @@ use Rattle.basis.specs.declared.assembly.Assemblies.{Assemblies}
 use Rattle.basis.proofs.Replacing.{getD-same}
 use Rattle.basis.proofs.Holding.{members-size, picked-rings}
 use Rattle.cycles.proofs.BasisList.{even-sums}
-use Rattle.cycles.proofs.Bound.{total-last, total-share, sums-share}
-use Rattle.rings.specs.Found.{most, Room, Appended, Ordered}
+use Rattle.cycles.proofs.Bound.{mostRings, total-last, total-share, sums-share}
+use Rattle.rings.specs.Found.{Room, Appended, Ordered}
 use Rattle.rings.specs.Gibbs.{combined, foundAt, foundIn, allCombined}
 use Rattle.rings.specs.Elimination.{Spanned, Choosable, Selected}
 use Rattle.rings.specs.Perceiving.{tangledIn, sumsIn, mostOf, Small, Combinable, Listable, Roomy, asked, Blank, Refused, Accepted, Perceives}
@@ -98,16 +98,22 @@ total-each : (n : ℕ) (g : ℕ → ℕ) (a : ℕ) → a < n → g a ≤ total (
 total-each n g a h =
     le-ind (λ m. g a ≤ total (listed m (λ k. true) g)) (omega (arith, total-last a g)) (λ m (l : suc a ≤ m) ih. omega (arith, total-last m g)) n h
 
+-- the first n have no more than as many of the largest
+sums-few : (members : List ℕ) (n : ℕ) → ((a : ℕ) → a < n → size (getD members a 0) ≤ maxAssembly) → sumsIn members n ≤ (2 ^ maxAssembly - 1) * n
+unfolding listed total
+sums-few members zero small = omega arith
+sums-few members (suc n) small =
+    omega (arith, total-last n (sumsAt members), sums-few members n (λ a l. small a (omega arith)), pow-mono (small n (omega arith)))
+
 -- n is what the assemblies below a have
 pub record Added (members : List ℕ) (m n a : ℕ) : Type 0 where
   pub within : a ≤ m
-  pub few : n ≤ (2 ^ maxAssembly - 1) * a
   pub sum : n ≡ sumsIn members a
 
 -- before the first
 pub added-none : (members : List ℕ) (m : ℕ) → Added members m 0 0
 unfolding listed total
-added-none members m = record { within = omega arith; few = omega arith; sum = refl }
+added-none members m = record { within = omega arith; sum = refl }
 
 module _ {members : List ℕ} {m n a k : ℕ} (d : Added members m n a) (small : Small members m) (l : a < m) (is : k ≡ size (getD members a 0)) where
   -- the next has not too many
@@ -124,13 +130,12 @@ module _ {members : List ℕ} {m n a k : ℕ} (d : Added members m n a) (small :
 
   -- so many are the others, and the number is no more than a word holds
   pub added-fits : n + ((1 * 2 ^ k) % 2 ^ 64 - 1) < 2 ^ 64
-  added-fits = omega (arith, moved, pow-mono added-few, d .few, d .within, small .counted)
+  added-fits = omega (arith, moved, pow-mono added-few, d .sum, sums-few members a (λ b h. small .small b (omega arith)), small .counted)
 
   -- they are added
   pub added-more : Added members m (n + ((1 * 2 ^ k) % 2 ^ 64 - 1)) (a + 1)
   added-more = record {
     within = omega arith;
-    few = omega (arith, moved, d .few, pow-mono added-few);
     sum = rw (add-one, moved, is) (omega (arith, d .sum, total-last a (sumsAt members)));
   }
 
@@ -149,6 +154,11 @@ all-found-few rings members n =
       total-share 1 1 n (λ a. length (foundAt rings members a)) (sumsAt members) (λ a l. omega (arith, found-few rings (getD members a 0))),
     )
 
+-- and no more than as many assemblies of the largest have
+pub all-found-most : (rings members : List ℕ) (n : ℕ) → ((a : ℕ) → a < n → size (getD members a 0) ≤ maxAssembly)
+    → length (foundIn rings members n) ≤ (2 ^ maxAssembly - 1) * n
+all-found-most rings members n small = omega (arith, all-found-few rings members n, sums-few members n small)
+
 -- no fewer in more of them
 sums-mono : (members : List ℕ) (a n : ℕ) → a ≤ n → sumsIn members a ≤ sumsIn members n
 sums-mono members a n h =
@@ -156,14 +166,14 @@ sums-mono members a n h =
 
 module _ {b : Basis} {s : Assemblies} (c : Combinable b s) where
   -- what is found in all of them
-  pub found-all : foundIn (b .rings) (s .members) (s .count) ≡ allCombined (ringsOf b)
+  found-all : foundIn (b .rings) (s .members) (s .count) ≡ allCombined (ringsOf b)
   unfolding allCombined
   found-all =
       gather-ext (s .count) (foundAt (b .rings) (s .members)) (λ a. combined (ringsIn (ringsOf b) a)) (λ a l. ap combined (picked-rings b (c .few) (c .counted) (c .assemblies) a l))
       ∙ ap (λ n. gather n (λ a. combined (ringsIn (ringsOf b) a))) (c .assemblies .count)
 
   -- they have no more sums than those of any table
-  most-few : mostOf s ≤ most
+  most-few : mostOf s ≤ mostRings
   most-few =
       omega (
         arith,
@@ -180,7 +190,7 @@ module _ {b : Basis} {s : Assemblies} (c : Combinable b s) where
           ∙ rings-total (ringsOf b)
 
   -- a list of so many words has room
-  roomy-most : Roomy s most
+  roomy-most : Roomy s mostRings
   roomy-most = record { counted = c .small .counted; found = most-few; sums = λ a l. omega (arith, pow-mono (c .small .small a l)) }
 
 -- a list has room that is longer than there are sums which are not empty
@@ -309,13 +319,8 @@ module _ {M : Table} {p : Perceived} (seen : Perceives M p) (zero : p .number �
   perceived-valid = accepted M .0 (rings-accepted M .0 unrefused .0)
 
   -- what the combination finds is all rings
-  pub perceived-rings : sort before (allCombined (ringsOf (p .basis))) ≡ allRings M
+  perceived-rings : sort before (allCombined (ringsOf (p .basis))) ≡ allRings M
   perceived-rings = ap (λ rs. sort before (allCombined rs)) (perceived .basis .rings) ∙ all-combined perceived-valid
-
-  -- and what is taken of them is the smallest basis
-  pub perceived-smallest : taking [] (sort before (allCombined (ringsOf (p .basis)))) ≡ smallestBasis M
-  unfolding smallestBasis
-  perceived-smallest = ap (taking []) perceived-rings
 
   -- the basis rings can be combined
   pub perceived-combinable : Combinable (p .basis) (p .assemblies)
@@ -334,7 +339,7 @@ module _ {M : Table} {p : Perceived} (seen : Perceives M p) (zero : p .number �
       ring x i = subst (In x) perceived-rings (sort-in before (allCombined (ringsOf (p .basis))) x .1 i)
 
   -- what the combination finds in their assemblies is all rings
-  perceived-found : sort before (foundIn (p .basis .rings) (p .assemblies .members) (p .assemblies .count)) ≡ allRings M
+  pub perceived-found : sort before (foundIn (p .basis .rings) (p .assemblies .members) (p .assemblies .count)) ≡ allRings M
   perceived-found = ap (sort before) (found-all perceived-combinable) ∙ perceived-rings
 
   -- and each of these is a sum of the basis rings
@@ -346,7 +351,7 @@ module _ {M : Table} {p : Perceived} (seen : Perceives M p) (zero : p .number �
   perceived-less h = roomy-less (perceived .assemblies .counted) (omega (arith, perceived .most))
 
   -- and so has the longest list
-  pub perceived-roomy : Roomy (p .assemblies) most
+  pub perceived-roomy : Roomy (p .assemblies) mostRings
   perceived-roomy = roomy-most perceived-combinable
 
   -- an answer that holds what the table asks for is the table's

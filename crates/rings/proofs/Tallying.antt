@@ -5,23 +5,22 @@ use mathlib.Core.Logic.{_≢_}
 use mathlib.Core.Bool.{false}
 use mathlib.Core.List.{List, [], _∷_, map, map-append}
 use mathlib.Core.List.{List·Memᴰ as In, List·Memᴰ·head as here}
-use Prim.Native.Nat.{ℕ, zero, suc, _+_, _*_, _^_, _<_, _≤_}
+use Prim.Native.Nat.{ℕ, _+_, _^_, _<_, _≤_}
 use native.Mathlib.Nat.{le-antisymm}
 use native.Mathlib.Omega.{arith}
-use lib.ListN.{length, take, getD, length-append, length-map, List·getD-eq-default}
+use lib.ListN.{length, take, getD, length-map, List·getD-eq-default}
 use lib.Pow.{pow-mono}
 use lib.Dec.{ltb}
 use borrow.Author.Tests.{ltb-true, ltb-false}
 use Rattle.sets.specs.Bits.{has, size, meet}
 use Rattle.sets.specs.Ring.{room}
-use Rattle.definitions.specs.Search.{sort, insert, gather}
-use Rattle.definitions.specs.Assembly.{maxAssembly}
+use Rattle.definitions.specs.Search.{sort, insert}
 use Rattle.definitions.specs.AllRings.{before}
 use Rattle.definitions.specs.Smallest.{chosen, taking}
 use Rattle.definitions.specs.Label.{occurs}
 use Rattle.definitions.proofs.Tests.{by}
 use Rattle.definitions.proofs.Lists.{length-listed, setOf-is, size-setOf, gather-step, gather-zero, gather-in}
-use Rattle.definitions.proofs.Sorting.{occurs-nil, occurs-append, length-sort, sort-in}
+use Rattle.definitions.proofs.Sorting.{occurs-nil, occurs-append, length-sort}
 use Rattle.spans.proofs.Spans.{span-in}
 use Rattle.spans.proofs.Choice.{span→sum}
 use Rattle.spans.proofs.Taking.{taking-nil, taking-keep, taking-length-le}
@@ -30,11 +29,12 @@ use Rattle.basis.specs.Held.{picked}
 use Rattle.rings.specs.Found.{Appended}
 use Rattle.rings.specs.Gibbs.{combined, foundAt, foundIn}
 use Rattle.rings.specs.Sizes.{allSizes, Countable, Tallied}
-use Rattle.rings.specs.Elimination.{Choosable, Selected}
+use Rattle.rings.specs.Elimination.{Spanned, Selected}
 use Rattle.rings.specs.Tally.{mostInOne, mostInAll, Alone, Separate}
 use Rattle.rings.proofs.Turns.{found-few}
 use Rattle.rings.proofs.Exactly.{combined-sum}
 use Rattle.rings.proofs.Sizing.{occurs-le}
+use Rattle.rings.proofs.Perceiving.{all-found-most}
 
 -- ---- what is found in an assembly
 
@@ -159,34 +159,11 @@ module _ {rings : List ℕ} {places m : ℕ} (h : Alone rings places m) {start f
   pub alone-few : n ≤ mostInOne
   alone-few = omega (arith, g .count, found-few rings places, pow-mono (h .small))
 
-  -- from it in order a smallest basis can be chosen
-  pub alone-choosable : {ordered taken : List ℕ} {want : ℕ} → places < 2 ^ room → length ordered ≡ m → take n ordered ≡ sort before (take n found)
-      → (want ≡ size places) × (want ≤ room) → length taken ≡ room → Choosable ordered n want taken
-  alone-choosable l long e (is, few) t = record {
-    within = alone-within long;
-    lent = t;
-    few = few;
-    spanned = (
-      picked rings places,
-      length-picked rings places l ∙ sym is,
-      λ x i. combined-sum (picked rings places) x (sort-in before (combined (picked rings places)) x .0 (subst (In x) (e ∙ ap (sort before) (g .list)) i)),
-    );
-  }
+-- each set found is a sum of its basis rings
+pub alone-spanned : (rings : List ℕ) (places : ℕ) {want : ℕ} → places < 2 ^ room → want ≡ size places → Spanned want (combined (picked rings places))
+alone-spanned rings places l is = (picked rings places, length-picked rings places l ∙ sym is, combined-sum (picked rings places))
 
 -- ---- one assembly after another
-
--- in the first assemblies no more is found than they have sums
-found-most : (rings members : List ℕ) (a : ℕ) → ((b : ℕ) → b < a → size (getD members b 0) ≤ maxAssembly) → length (foundIn rings members a) ≤ a * mostInOne
-unfolding gather
-found-most rings members zero small = omega arith
-found-most rings members (suc a) small =
-    omega (
-      arith,
-      length-append (foundIn rings members a) (foundAt rings members a),
-      found-most rings members a (λ b l. small b (omega arith)),
-      found-few rings (getD members a 0),
-      pow-mono (small a (omega arith)),
-    )
 
 -- the assemblies below a are counted
 pub record Counted (rings members : List ℕ) (n : ℕ) (all₀ smallest₀ : List ℕ) (all smallest : List ℕ) (top a : ℕ) : Type 0 where
@@ -209,7 +186,7 @@ module _ {rings members : List ℕ} {n m : ℕ} (s : Separate rings members n m)
   module _ {all₀ smallest₀ all smallest : List ℕ} {top : ℕ} (t : Counted rings members n all₀ smallest₀ all smallest top a) where
     -- what is found in this one is no more than can still be counted
     counted-few : length (foundIn rings members a) + mostInOne ≤ mostInAll
-    counted-few = omega (arith, found-most rings members a (λ b h. s .each b (omega arith) .small), s .counted)
+    counted-few = omega (arith, all-found-most rings members a (λ b h. s .each b (omega arith) .small), s .counted)
 
     -- so its rings can
     pub countable-all : Countable all₀ mostInAll → Countable all mostInOne

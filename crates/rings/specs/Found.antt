@@ -2,17 +2,10 @@
 -- Assumes nothing.
 use mathlib.Core.Path.{_≡_}
 use mathlib.Core.List.{List, _++_}
-use Prim.Native.Nat.{ℕ, _+_, _-_, _*_, _/_, _^_, _≤_}
+use Prim.Native.Nat.{ℕ, _+_, _≤_}
 use lib.ListN.{length, take, drop}
 use Rattle.definitions.specs.Search.{sort}
-use Rattle.definitions.specs.Table.{maxBonds}
-use Rattle.definitions.specs.Assembly.{maxAssembly}
 use Rattle.definitions.specs.AllRings.{before}
-
--- no table that is not tangled has more rings: k basis rings have 2 ^ k - 1 sums that are not empty, which is most for each of them
--- where an assembly has as many as it may, and there are no more basis rings than bonds
-abbrev pub most : ℕ
-most = (2 ^ maxAssembly - 1) * maxBonds / maxAssembly
 
 -- the words of a list from one place up to another
 abbrev pub between : ℕ → ℕ → List ℕ → List ℕ

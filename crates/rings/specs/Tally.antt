@@ -16,7 +16,7 @@ use Rattle.rings.specs.Gibbs.{combined, foundAt}
 abbrev pub mostInOne : ℕ
 mostInOne = 2 ^ maxAssembly
 
--- and so many assemblies as there may be have no more
+-- nor have all the assemblies that there may be
 abbrev pub mostInAll : ℕ
 mostInAll = maxBonds * mostInOne
 

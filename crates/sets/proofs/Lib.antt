@@ -3,7 +3,7 @@
 --     Size       the size of sums, unions and parts
 --     Members    common members, parts, the next member, induction over the members
 --     Upto       the members below a number: what a loop by `next` has passed
---     Machine    what a machine word does to the set that it holds, and the bound of each kind
+--     Machine    what a machine word does to the set that it holds; the bounds of sets of bonds and of basis rings
 pub mod Laws
 pub mod Size
 pub mod Members

@@ -1,5 +1,5 @@
--- What a machine word of m digits does to the set that it holds: the law of each operation of src/word.rt, for any m;
--- and the bound of what each kind of set stands for. Assumes nothing.
+-- What a machine word of m digits does to the set that it holds, for any m: a shifted one, the test of a digit, a member put in, the next
+-- member; and the bound of a set of bonds and of a set of basis rings. Assumes nothing.
 use mathlib.Core.Bool.{Bool, true, false, cond}
 use mathlib.Core.Logic.{_⊎_, inl, inr}
 use mathlib.Core.Path.{_≡_, sym, ap, _∙_}
@@ -79,7 +79,7 @@ next-found m s from h p =
       none = λ k a b. from-on s from k a ∙ trailing-none m (s / 2 ^ from) (k - from) (sub-lt-left-of-lt-add a b);
     }
 
--- ---- the bound of each kind
+-- ---- the bound of a set of bonds, of a set of basis rings
 
 pub bond-lt : (s : BondSet) → bond.Held s → bond.bits s < 2 ^ bond.room
 bond-lt s h = h

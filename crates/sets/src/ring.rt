@@ -1,7 +1,7 @@
 // A set of basis rings (a superset in 000), in one word: basis ring k is the digit k.
 use super::word;
 ghost use mathlib.Core.Path.{_≡_};
-ghost use Prim.Native.Nat.{_≤_};
+ghost use Prim.Native.Nat.{_≤_, min};
 ghost use lib.Bits.{bitOr, bitXor};
 ghost use Rattle.sets.specs.Bits as spec;
 ghost use Rattle.sets.specs.Ring.{bits, room};
@@ -14,6 +14,13 @@ impl RingSet {
 
     // The largest ring number that a set can hold.
     pub const LAST: usize = word::SIZE - 1;
+
+    // The set of the rings below n; of all up to LAST where n is above LAST.
+    pub fn below(n: usize) -> RingSet
+        ensures { λ r. ⌜ bits r ≡ spec.allBelow (min n room) ⌝ }
+    {
+        RingSet(word::below(n))
+    }
 
     // The set whose rings are the digits of a word.
     pub fn of_word(word: u64) -> RingSet

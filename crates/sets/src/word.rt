@@ -4,7 +4,7 @@ ghost use Prim.Native.Nat.{_≤_, min};
 ghost use Rattle.sets.specs.Bits as spec;
 
 // The members that a word can hold are those below SIZE.
-pub const SIZE: usize = 64;
+pub(crate) const SIZE: usize = 64;
 
 // All numbers below n that a word holds.
 pub(crate) fn below(n: usize) -> u64

@@ -1,7 +1,7 @@
 -- Lists of sets that share no bond: only the empty set is both a sum of sets of the one and a sum of sets of the other. So what is taken of
 -- each by itself is together independent, and has of each size as many sets as what is taken of both. Assumes nothing.
-use mathlib.Core.Path.{_≡_, refl, sym, ap, ap₂, subst⁻¹, subst₂, _∙_}
-use mathlib.Core.Logic.{_↔_, _⊎_, inl, ⊎-elim, ⊎-map}
+use mathlib.Core.Path.{_≡_, refl, sym, ap, ap₂, subst⁻¹, _∙_}
+use mathlib.Core.Logic.{_↔_, _⊎_, ⊎-elim, ⊎-map}
 use mathlib.Core.Bool.{true, false, xor}
 use mathlib.Core.List.{List, [], _∷_, _++_, map, map-append, Memᴰ·append-left, Memᴰ·append-right}
 use mathlib.Core.List.{List·Memᴰ as In, List·Memᴰ·head as here, List·Memᴰ·tail as there, List·Memᴰ·append-cases as in-append}
@@ -9,7 +9,6 @@ use Prim.Native.Nat.{ℕ, _+_, _≤_}
 use native.Mathlib.Nat.{le-antisymm}
 use lib.Bits.{bitXor, xor-zero-l}
 use lib.Dec.{leb}
-use borrow.Author.Tests.{leb-false}
 use Rattle.sets.specs.Bits.{has, size, meet}
 use Rattle.sets.proofs.Laws.{empty as no-members, xor-assoc, has-xor, has-zero}
 use Rattle.sets.proofs.Size.{xor-zero}
@@ -18,15 +17,14 @@ use Rattle.definitions.specs.Search.{sort}
 use Rattle.definitions.specs.AllRings.{before}
 use Rattle.definitions.specs.Label.{occurs}
 use Rattle.definitions.specs.Smallest.{taking}
-use Rattle.definitions.proofs.Tests.{by, clashes, not-passed, not-failed}
-use Rattle.definitions.proofs.Lists.{sorted-none, sorted-more, keep-append}
-use Rattle.definitions.proofs.Sorting.{SortedWeak, weak-none, weak-more, sort-weak, sort-in, before-order, before-reads, occurs-append}
+use Rattle.definitions.proofs.Tests.{by, clashes, not-passed}
+use Rattle.definitions.proofs.Lists.{keep-append}
+use Rattle.definitions.proofs.Sorting.{sort-weak, sort-in, before-order, occurs-append}
 use Rattle.spans.proofs.Spans.{Span, none, skip, add, Indep, empty, more, span-in, span-eq, span-sum, span-sub, xor-cancel, xor-left-comm}
-use Rattle.spans.proofs.Choice.{indep-sub}
-use Rattle.spans.proofs.Exchange.{exchange}
 use Rattle.spans.proofs.Taking.{taking-in, taking-indep}
-use Rattle.spans.proofs.Counts.{light, upto, length-light, keep-sub, same-occurs}
-use Rattle.spans.proofs.Lightest.{Rising, from-light, in-reached, taking-light, taking-most}
+use Rattle.spans.proofs.Counts.{light, upto, same-occurs}
+use Rattle.spans.proofs.Lightest.{Rising, in-reached, light-most, taking-light, taking-most}
+use Rattle.spans.proofs.Smallest.{weak-rising}
 
 -- ---- what two lists span
 
@@ -86,17 +84,12 @@ module _ (w : ℕ → ℕ) (xs ys zs : List ℕ) (rx : Rising w xs) (ry : Rising
   -- and up to each weight it spans the sets of zs, so zs has no more
   back : (t : ℕ) → upto t (map w (taking [] zs)) ≤ upto t (map w each-taken)
   back t =
-      subst₂ _≤_ (length-light w t (taking [] zs)) (length-light w t each-taken)
-      (exchange (light w t each-taken) (light w t (taking [] zs)) spanned (indep-sub (keep-sub (λ x. leb (w x) t) (taking [] zs)) (taking-indep zs)))
-    where
-      spanned : (b : ℕ) → In b (light w t (taking [] zs)) → Span (light w t each-taken) b
-      spanned b i =
-          let (j, l) = from-light w t (taking [] zs) b i in
-          subst⁻¹ (λ l. Span l b) (keep-append (λ x. leb (w x) t) (taking [] xs) (taking [] ys))
-          (⊎-elim
-          (λ k. span-sub (λ v. Memᴰ·append-left (light w t (taking [] ys))) (taking-light w xs rx t b k l))
-          (λ k. span-sub (λ v. Memᴰ·append-right (light w t (taking [] xs))) (taking-light w ys ry t b k l))
-          (of b .0 (taking-in zs b j)))
+      light-most w (taking [] zs) each-taken (taking-indep zs) t
+      (λ b i l. subst⁻¹ (λ us. Span us b) (keep-append (λ x. leb (w x) t) (taking [] xs) (taking [] ys))
+      (⊎-elim
+      (λ k. span-sub (λ v. Memᴰ·append-left (light w t (taking [] ys))) (taking-light w xs rx t b k l))
+      (λ k. span-sub (λ v. Memᴰ·append-right (light w t (taking [] xs))) (taking-light w ys ry t b k l))
+      (of b .0 (taking-in zs b i))))
 
   -- of each weight as many are taken of zs as of xs and of ys
   pub apart-occurs : (t : ℕ) → occurs t (map w (taking [] zs)) ≡ occurs t (map w (taking [] xs)) + occurs t (map w (taking [] ys))
@@ -107,19 +100,11 @@ module _ (w : ℕ → ℕ) (xs ys zs : List ℕ) (rx : Rising w xs) (ry : Rising
 
 -- ---- in the order of all rings
 
--- a list in that order, with repeats or without, is in rising size
-weak-rising : {l : List ℕ} → SortedWeak before l → Rising size l
-weak-rising weak-none = sorted-none
-weak-rising (weak-more {x} h s) =
-    sorted-more
-    (λ y i. not-failed (leb (size x) (size y)) (λ e. clashes (before-reads y x .1 (inl (leb-false (size x) (size y) e))) (h y i)))
-    (weak-rising s)
-
--- so is each sorted list
+-- each list sorted in that order is in rising size
 pub sort-rising : (l : List ℕ) → Rising size (sort before l)
 sort-rising l = weak-rising (sort-weak before-order l)
 
--- what is taken of two lists whose sets share no bond is taken of each by itself: of each size so many as of the one and of the other
+-- of two lists whose sets share no bond, as many sets of each size are taken together as of the first by itself and of the second by itself
 pub taken-apart : (xs ys : List ℕ) → ((x y : ℕ) → In x xs → In y ys → meet x y ≡ false)
     → (z : ℕ) → occurs z (map size (taking [] (sort before (xs ++ ys)))) ≡ occurs z (map size (taking [] (sort before xs))) + occurs z (map size (taking [] (sort before ys)))
 taken-apart xs ys apart =

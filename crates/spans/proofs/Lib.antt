@@ -6,9 +6,9 @@
 --     Counts         how many numbers are at most t, or t, and the total of a list
 --     Lightest       what is taken of a rising list weighs least, and the weights are the same in all that do
 --     Invariant      the same weights are taken of lists that a map carries to each other
+--     Smallest       the theorems about the smallest basis, over any list in rising size
 --     Apart          of lists that share no bond as many of each size are taken as of each by itself
 --     Elimination    the test of a sum by kept sets, one for each lowest member, as code has it
---     Smallest       the theorems about the smallest basis, over any list in rising size
 pub mod Spans
 pub mod Choice
 pub mod Exchange
@@ -16,6 +16,6 @@ pub mod Taking
 pub mod Counts
 pub mod Lightest
 pub mod Invariant
+pub mod Smallest
 pub mod Apart
 pub mod Elimination
-pub mod Smallest

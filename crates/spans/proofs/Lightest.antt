@@ -2,7 +2,6 @@
 -- sums of sets of the list no heavier than themselves. So it weighs no more than any other such basis, and one that weighs as
 -- much has as many sets of each weight. Assumes nothing.
 use mathlib.Core.Path.{_≡_, sym, subst, subst₂, _∙_}
-use mathlib.Core.Bool.{Bool, true}
 use mathlib.Core.List.{List, [], _++_, append-nil, map}
 use mathlib.Core.List.{List·Memᴰ as In, List·Memᴰ·head as here, List·Memᴰ·tail as there, Memᴰ·append-left, Memᴰ·append-right}
 use Prim.Native.Nat.{ℕ, _≤_}
@@ -13,7 +12,7 @@ use borrow.Author.Tests.{le-leb, leb-true}
 use Rattle.definitions.specs.Search.{total}
 use Rattle.definitions.specs.Label.{occurs}
 use Rattle.definitions.specs.Smallest.{taking}
-use Rattle.definitions.proofs.Lists.{Sorted, sorted-none, sorted-more, keep-in, keep-take}
+use Rattle.definitions.proofs.Lists.{Sorted, sorted-more, keep-in, keep-take}
 use Rattle.spans.proofs.Spans.{Span, Indep, span-in, span-eq, span-sub, span-trans}
 use Rattle.spans.proofs.Choice.{from-middle, indep-sub}
 use Rattle.spans.proofs.Exchange.{exchange, same-length}
@@ -24,11 +23,6 @@ use Rattle.spans.proofs.Counts.{light, upto, length-light, keep-sub, li
 abbrev pub Rising : (ℕ → ℕ) → List ℕ → Type 0
 Rising w xs = Sorted (λ x y. leb (w x) (w y)) xs
 
--- a list in an order by which weights rise is rising
-pub sorted-rising : (w : ℕ → ℕ) {before : ℕ → ℕ → Bool} {xs : List ℕ} → ((x y : ℕ) → before x y ≡ true → w x ≤ w y) → Sorted before xs → Rising w xs
-sorted-rising w h sorted-none = sorted-none
-sorted-rising w h (sorted-more {x} f s) = sorted-more (λ y i. le-leb (w x) (w y) (h x y (f y i))) (sorted-rising w h s)
-
 module _ (w : ℕ → ℕ) where
   -- a set of weight at most t is among the light ones
   in-light : (t : ℕ) (xs : List ℕ) (x : ℕ) → In x xs → w x ≤ t → In x (light w t xs)
@@ -37,6 +31,12 @@ module _ (w : ℕ → ℕ) where
   -- and the light ones are such
   pub from-light : (t : ℕ) (xs : List ℕ) (x : ℕ) → In x (light w t xs) → In x xs × (w x ≤ t)
   from-light t xs x i = let r = keep-in (λ x. leb (w x) t) x xs .0 i in (r .0, leb-true (w x) t (r .1))
+
+  -- an independent list whose sets up to weight t are sums of such sets of another has no more of them than the other
+  pub light-most : (bs cs : List ℕ) → Indep bs → (t : ℕ) → ((b : ℕ) → In b bs → w b ≤ t → Span (light w t cs) b) → upto t (map w bs) ≤ upto t (map w cs)
+  light-most bs cs d t h =
+      subst₂ _≤_ (length-light w t bs) (length-light w t cs)
+      (exchange (light w t cs) (light w t bs) (λ b i. let (j, l) = from-light t bs b i in h b j l) (indep-sub (keep-sub (λ x. leb (w x) t) bs) d))
 
   -- what is taken up to weight t spans, with what was taken before, the sets up to weight t
   run-light : {acc xs ys : List ℕ} → Run acc xs ys → Rising w xs → (t x : ℕ) → In x xs → w x ≤ t → Span (light w t ys ++ acc) x
@@ -93,13 +93,8 @@ module _ (w : ℕ → ℕ) where
     -- up to each weight as many are taken as any independent list has
     pub taking-most : (bs : List ℕ) → Indep bs → ((b : ℕ) → In b bs → Reached xs b) → (t : ℕ) → upto t (map w bs) ≤ upto t (map w (taking [] xs))
     taking-most bs d reached t =
-        subst₂ _≤_ (length-light w t bs) (length-light w t (taking [] xs))
-        (exchange (light w t (taking [] xs)) (light w t bs) spanned (indep-sub (keep-sub (λ x. leb (w x) t) bs) d))
-      where
-        spanned : (b : ℕ) → In b (light w t bs) → Span (light w t (taking [] xs)) b
-        spanned b i =
-            let (j, l) = from-light t bs b i in
-            span-trans (λ x k. let (m, n) = from-light (w b) xs x k in taking-light t x m (le-trans n l)) (reached b j)
+        light-most bs (taking [] xs) d t
+        (λ b i l. span-trans (λ x k. let (m, n) = from-light (w b) xs x k in taking-light t x m (le-trans n l)) (reached b i))
 
     module _ (bs : List ℕ) (basis : Basis xs bs) where
       most : (t : ℕ) → upto t (map w bs) ≤ upto t (map w (taking [] xs))

@@ -2,39 +2,36 @@
 -- of the list is a sum of them, and no other such list has a smaller total of sizes. The sizes are the same in every smallest
 -- basis. Assumes nothing.
 use mathlib.Core.Path.{_≡_, sym, _∙_}
-use mathlib.Core.Bool.{true, _&&_}
-use mathlib.Core.Logic.{inl, inr}
+use mathlib.Core.Logic.{inl}
 use mathlib.Core.List.{List, [], map}
 use mathlib.Core.List.{List·Memᴰ as In}
 use Prim.Native.Nat.{ℕ, _≤_}
-use native.Mathlib.Nat.{le-of-lt, le-of-eq}
-use borrow.Author.Tests.{ltb-true, eqb-true}
-use lib.Dec.{eqb, ltb}
+use borrow.Author.Tests.{leb-false}
+use lib.Dec.{leb}
 use lib.ListN.{length}
 use Rattle.sets.specs.Bits.{size}
 use Rattle.definitions.specs.Search.{total}
 use Rattle.definitions.specs.AllRings.{before}
 use Rattle.definitions.specs.Label.{occurs}
 use Rattle.definitions.specs.Smallest.{SumOf, taking}
-use Rattle.definitions.proofs.Tests.{or-one, and-both}
-use Rattle.definitions.proofs.Lists.{Sorted}
+use Rattle.definitions.proofs.Tests.{clashes, not-failed}
+use Rattle.definitions.proofs.Sorting.{Sorted, sorted-none, sorted-more, SortedWeak, weak-none, weak-more, sorted-weak, before-order, before-reads}
 use Rattle.spans.proofs.Choice.{NoneOfOthers, others-iff-indep, sum→span, span→sum}
 use Rattle.spans.proofs.Taking.{taking-in, taking-indep, taking-holds}
 use Rattle.spans.proofs.Counts.{light}
-use Rattle.spans.proofs.Lightest.{Rising, sorted-rising, Basis, basis-of, basis-length, taking-least, lightest-occurs}
+use Rattle.spans.proofs.Lightest.{Rising, Basis, basis-of, basis-length, taking-least, lightest-occurs}
 
--- a ring that stands before another is no larger
-before-size : (x y : ℕ) → before x y ≡ true → size x ≤ size y
-unfolding before
-before-size x y e =
-    elim (or-one (ltb (size x) (size y)) (eqb (size x) (size y) && ltb x y) e) [
-      | inl l ↦ le-of-lt (ltb-true (size x) (size y) l)
-      | inr b ↦ le-of-eq (eqb-true (size x) (size y) (and-both (eqb (size x) (size y)) (ltb x y) b .0))
-    ]
+-- a list in the order of all rings is in rising size, with repeats
+pub weak-rising : {xs : List ℕ} → SortedWeak before xs → Rising size xs
+weak-rising weak-none = sorted-none
+weak-rising (weak-more {x} h s) =
+    sorted-more
+    (λ y i. not-failed (leb (size x) (size y)) (λ e. clashes (before-reads y x .1 (inl (leb-false (size x) (size y) e))) (h y i)))
+    (weak-rising s)
 
--- so a list in the order of all rings is in rising size
+-- and without
 pub before-rising : {xs : List ℕ} → Sorted before xs → Rising size xs
-before-rising s = sorted-rising size before-size s
+before-rising s = weak-rising (sorted-weak before-order s)
 
 -- bs is a basis made of sets of xs
 pub record BasisOf (xs bs : List ℕ) : Type 0 where

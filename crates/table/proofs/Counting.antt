@@ -15,8 +15,8 @@ use Rattle.definitions.specs.Basis.{endsBelow, fragments, closure?, basisRing, 
 use Rattle.definitions.proofs.Tests.{by, same-test}
 use Rattle.definitions.proofs.Lists.{count-zero, count-skip, count-take, count-all, count-le, count-ext, length-listed, listed-at}
 use Rattle.definitions.proofs.Refusals.{Valid}
-use Rattle.definitions.proofs.Classes.{Least, merged, merged-max, merged-other, getD-merge, classes-least}
-use Rattle.definitions.proofs.Paths.{ends-within, fragments-none, fragments-step}
+use Rattle.definitions.proofs.Classes.{Least, merged, merged-max, merged-other, merged-same, classes-least}
+use Rattle.definitions.proofs.Paths.{ends-within, fragments-none, fragments-more}
 use Rattle.table.specs.Fragments.{fragmentCount}
 
 -- of tests that differ at h alone, the one that passes there counts one more
@@ -47,11 +47,6 @@ fragmentsBy M k = count (M .atoms) (firstBy? M k)
 
 -- ---- numbers of fragments made one
 
--- a fragment made one with itself stays
-merged-same : (x y z : ℕ) → x ≡ y → merged x y z ≡ z
-unfolding merged
-merged-same x y z e = by (eqb z (max x y)) (λ t. rw t (omega (arith, eqb-true z (max x y) t))) (λ t. rw t)
-
 -- an atom a of number z, not the higher of the first atoms x and y, is a first atom after as before
 first-kept : (x y z a : ℕ) → (a ≡ x → z ≡ x) → (a ≡ y → z ≡ y) → (a ≡ max x y → ⊥) → eqb z a ≡ eqb (merged x y z) a
 first-kept x y z a hx hy other =
@@ -74,10 +69,6 @@ own-max f x y p q =
 
 -- ---- the bonds in order
 
--- the numbers after one bond more
-number-more : (M : Table) (k a : ℕ) → number M (k + 1) a ≡ merged (number M k (tail M k)) (number M k (head M k)) (number M k a)
-number-more M k a = ap (λ l. getD l a 0) (fragments-step M k) ∙ getD-merge (tail M k, head M k) (fragments M k) a
-
 module _ {M : Table} (v : Valid M) where
   -- the number of a fragment is its least atom
   pub number-least : (k a : ℕ) → k ≤ bonds M → a < M .atoms → Least (M .atoms) (endsBelow M k) a (number M k a)
@@ -99,7 +90,7 @@ module _ {M : Table} (v : Valid M) where
 
     -- a closure bond leaves the fragments as they are
     as-many : x ≡ y → fragmentsBy M (k + 1) ≡ fragmentsBy M k
-    as-many e = count-ext (M .atoms) _ _ (λ a m. ap (λ z. eqb z a) (number-more M k a ∙ merged-same x y (number M k a) e))
+    as-many e = count-ext (M .atoms) _ _ (λ a m. ap (λ z. eqb z a) (fragments-more M k a ∙ merged-same x y (number M k a) e))
 
     -- any other makes two of them one
     one-less : (x ≡ y → ⊥) → fragmentsBy M k ≡ fragmentsBy M (k + 1) + 1
@@ -111,8 +102,8 @@ module _ {M : Table} (v : Valid M) where
         count-differ (M .atoms) (max x y) (firstBy? M k) (firstBy? M (k + 1))
         (omega (arith, inside, number-least k (tail M k) (omega arith) (inside .0) .low, number-least k (head M k) (omega arith) (inside .1) .low))
         (eq-eqb (number M k (max x y)) (max x y) high)
-        (ne-eqb (number M (k + 1) (max x y)) (max x y) (λ e. h (omega (arith, e, number-more M k (max x y) ∙ merged-max x y (number M k (max x y)) high))))
-        (λ a m other. first-kept x y (number M k a) a (λ e. ap (number M k) e ∙ own-x) (λ e. ap (number M k) e ∙ own-y) other ∙ ap (λ z. eqb z a) (sym (number-more M k a)))
+        (ne-eqb (number M (k + 1) (max x y)) (max x y) (λ e. h (omega (arith, e, fragments-more M k (max x y) ∙ merged-max x y (number M k (max x y)) high))))
+        (λ a m other. first-kept x y (number M k a) a (λ e. ap (number M k) e ∙ own-x) (λ e. ap (number M k) e ∙ own-y) other ∙ ap (λ z. eqb z a) (sym (fragments-more M k a)))
 
     -- so closure bonds and atoms are as many as bonds and fragments, with this bond where they are without
     one-more : count k (closure? M) + M .atoms ≡ k + fragmentsBy M k → count (k + 1) (closure? M) + M .atoms ≡ k + 1 + fragmentsBy M (k + 1)

@@ -1,5 +1,5 @@
-// The check of a connection table, an atom count and two bytes a bond, and what the steps above take from an accepted one: the
-// ends of its bonds and the rows of its atoms. Words are written over a lent list here too.
+// The check of a connection table, an atom count and two bytes a bond, and what steps above can take from an accepted one: the
+// ends of its bonds, and the rows of its atoms, which none reads yet. Words are written over a lent list here too.
 mod answer;
 mod ends;
 mod fragment;

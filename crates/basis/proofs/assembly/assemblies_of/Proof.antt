@@ -35,8 +35,8 @@ free c =
     let at = c .before in
     divided-room (at .loop .inv .0) (few (at .before .before .before)) (at .loop .inv .1) (c .loop-test .taken)
 
-rings-below-requires : tie.Need-rings-below-requires Inv-loop μ-loop
-rings-below-requires c κs = search needs
+below-requires : tie.Need-below-requires Inv-loop μ-loop
+below-requires c κs = search needs
 
 next-requires : tie.Need-next-requires Inv-loop μ-loop
 next-requires c κs = search needs
@@ -44,7 +44,7 @@ next-requires c κs = search needs
 loop-holds : tie.Need-loop-holds Inv-loop μ-loop
 loop-holds c =
     let start = c .before .before in
-    (divided-none _ _ refl (λ a. getD-same maxBonds a 0) (rw (counted start) (c .before .rings-below .ensures)), c .next .ensures)
+    (divided-none _ _ (few start) refl (λ a. getD-same maxBonds a 0) (rw (counted start) (c .before .below .ensures)), c .next .ensures)
 
 cluster-of-requires : tie.Need-cluster-of-requires Inv-loop μ-loop
 cluster-of-requires c κs =
@@ -87,7 +87,7 @@ assemblies-of-spec =
     (tie.spec
     Inv-loop
     μ-loop
-    rings-below-requires
+    below-requires
     next-requires
     loop-holds
     cluster-of-requires

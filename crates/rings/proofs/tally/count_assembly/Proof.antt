@@ -1,8 +1,10 @@
 -- The rings of the assembly are found and counted, then those of its smallest basis. Assumes nothing.
 use mathlib.Core.Path.{_∙_, refl}
 use native.Mathlib.Omega.{arith}
+use denote.Ref.{now}
 use Rattle.sets.proofs.Machine.{ring-lt}
-use Rattle.rings.proofs.Tallying.{countable-less, alone-room, alone-within, alone-few, alone-choosable, both-one, both-chosen}
+use Rattle.rings.proofs.Perceiving.{combined-listed, listed-choosable}
+use Rattle.rings.proofs.Tallying.{countable-less, alone-room, alone-within, alone-few, alone-spanned, both-one, both-chosen}
 use borrow.Author.Needs.{needs}
 use Rattle.rings.proofs.tally.count_assembly.Statement.{statement}
 use Rattle.rings.proofs.tally.count_assembly.Tie as tie
@@ -55,8 +57,9 @@ smallest-of-requires c κs =
     let combined = sorted .before .before .before .before .before .before .before .before .before .before .before in
     let (kept, added) = combined .add-assembly .ensures in
     let start = combined .before .before .before .before .before in
-    let (found, ordered, all, smallest) = start .pre in
-    alone-choosable ordered added (ring-lt (start .args .members) (search needs)) (long ∙ kept) list (c .before .size .ensures) refl
+    let (is, few) = c .before .size .ensures in
+    listed-choosable (combined-listed {lent = now (start .args .ordered)} added (long ∙ kept) list) few
+    (alone-spanned (now (start .args .rings)) _ (ring-lt (start .args .members) (search needs)) is) refl
 
 slice-aggregate-count-sizes : tie.Need-slice-aggregate-count-sizes
 slice-aggregate-count-sizes c = search needs

@@ -4,8 +4,8 @@ use native.Mathlib.Omega.{arith}
 use denote.Ref.{now}
 use Rattle.rings.proofs.Perceiving.{combined-within, combined-listed}
 use borrow.Author.Needs.{needs}
-use Rattle.rings.proofs.perception.list_rings.Statement.{statement}
-use Rattle.rings.proofs.perception.list_rings.Tie as tie
+use Rattle.rings.proofs.listing.list_rings.Statement.{statement}
+use Rattle.rings.proofs.listing.list_rings.Tie as tie
 
 combine-requires : tie.Need-combine-requires
 combine-requires c κs = search needs

@@ -6,8 +6,8 @@ use lib.ListN.{length}
 use Rattle.sets.specs.Bits.{size}
 use Rattle.rings.proofs.Perceiving.{Assembled, assembled-none, assembled-room, assembled-more, assembled-all}
 use borrow.Author.Needs.{needs}
-use Rattle.rings.proofs.perception.combine.Statement.{statement}
-use Rattle.rings.proofs.perception.combine.Tie as tie
+use Rattle.rings.proofs.listing.combine.Statement.{statement}
+use Rattle.rings.proofs.listing.combine.Tie as tie
 
 abbrev Inv-loop : tie.InvT-loop
 Inv-loop rings members assemblies sums₀ found₀ count₀ done₀ sums found count done = Assembled rings members assemblies found₀ found count done × (length sums ≡ length sums₀)
