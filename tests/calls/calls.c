@@ -1,4 +1,4 @@
-/* Calls every exported function, as C calls it, on examples S1 to S10 and S13 to S15 of docs/SCOPE.md and on a few tables more. Each
+/* Calls every exported function, as C calls it, on examples S1 to S10 and S13 to S15 of docs/REFERENCE.md and on a few tables more. Each
    call's number, its count and every element of the list that was lent are held to what the example says: the items written, the rest
    as lent, all of it as lent where the call is refused. Each list is lent with no room, with one place too few, with just enough and
    with more, over two fillings, and lies between guard bytes; so do the bond bytes. */

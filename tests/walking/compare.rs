@@ -1,6 +1,7 @@
 //! Starts a program on each input and compares what it prints with what the search says.
 
-use crate::protocol::{hex, records, Piece, Program, Search};
+use crate::lists::lists_of;
+use crate::protocol::{hex, records, records_in, Piece, Program, Search};
 use crate::set::{batches, Batch, Wanted};
 use std::io::{Read, Write};
 use std::process::{Command, ExitStatus, Stdio};
@@ -33,6 +34,15 @@ pub fn compare(program: Program, command: &[String], wanted: &Wanted, patience: 
                 return false;
             }
         };
+        if ran.status.code().is_some_and(|code| code != 0) {
+            println!(
+                "{}, input \"{}\": the program failed, {}",
+                program.name(),
+                batch.name,
+                ran.status
+            );
+            return false;
+        }
         if let Some(difference) = difference(program, batch, &expected, &ran.output) {
             println!("{difference}");
             println!("  the program ended with {}", ran.status);
@@ -47,7 +57,7 @@ pub fn compare(program: Program, command: &[String], wanted: &Wanted, patience: 
             );
             return false;
         }
-        count += records(program, &batch.bytes).0.len();
+        count += records_in(program, &batch.bytes);
         printed += ran.output.len();
     }
     println!(
@@ -141,33 +151,14 @@ fn described(
         batch.name
     );
     if let Some(place) = record {
-        let record = &records(program, &batch.bytes).0[place];
         let note = batch.notes.get(place).copied().unwrap_or("of this input");
         text += &format!("  record   {} ({note})\n", place + 1);
-        text += &format!(
-            "  atoms    {}\n  bonds    {}\n",
-            record.table.atoms,
-            record.table.shown()
-        );
-        if program == Program::Vectors {
-            text += &format!(
-                "  room     {}\n",
-                record
-                    .room
-                    .map_or("not said".into(), |room| room.to_string())
-            );
-        }
-        let mut bytes = hex(&record.bytes);
-        if bytes.len() > 400 {
-            bytes.truncate(400);
-            bytes += "..";
-        }
-        text += &format!("  bytes    {bytes}\n");
+        text += &shown(program, &batch.bytes, place);
     }
     if record.is_none() && batch.bytes.len() <= 200 {
         text += &format!("  input    {}\n", hex(&batch.bytes));
     }
-    if program == Program::Vectors {
+    if program != Program::Ringline {
         text += &format!(
             "  entry    {}\n",
             line.split_whitespace().next().unwrap_or("none")
@@ -185,6 +176,34 @@ fn described(
         near(other, same)
     );
     text
+}
+
+/// A record of an input as a person reads it.
+fn shown(program: Program, input: &[u8], place: usize) -> String {
+    let mut text = String::new();
+    let mut bytes;
+    if program == Program::Lookups {
+        let lists = &lists_of(input).0[place];
+        let (first, second) = (lists.first.len(), lists.second.len());
+        text += &format!("  lists    of {first} and {second} words\n");
+        bytes = hex(&lists.bytes());
+    } else {
+        let record = &records(program, input).0[place];
+        let table = &record.table;
+        text += &format!("  atoms    {}\n  bonds    {}\n", table.atoms, table.shown());
+        if program == Program::Answers {
+            let room = record
+                .room
+                .map_or("not said".into(), |room| room.to_string());
+            text += &format!("  room     {room}\n");
+        }
+        bytes = hex(&record.bytes);
+    }
+    if bytes.len() > 400 {
+        bytes.truncate(400);
+        bytes += "..";
+    }
+    text + &format!("  bytes    {bytes}\n")
 }
 
 /// A line shown about a place: its start, and some characters before and after the place.

@@ -1,10 +1,10 @@
-//! docs/SCOPE.md's examples S1 to S15 and all values that it gives for them.
+//! The examples S1 to S15 of docs/REFERENCE.md, with values that it gives for them.
 
 use crate::frames::{complete, hypercube};
 use crate::sketch::Sketch;
 use crate::table::Table;
 
-/// An example. What docs/SCOPE.md does not say of it is None.
+/// An example's values. What is held to no value is None.
 #[derive(Default)]
 pub struct Values {
     /// The label's answer number.
@@ -33,7 +33,7 @@ pub struct Example {
 
 const NO_RINGS: &str = "01000100020000030000040000";
 
-/// A table from bonds written as in docs/SCOPE.md.
+/// A table from bonds written as in docs/REFERENCE.md.
 fn table(atoms: u64, bonds: &str) -> Table {
     let bonds: Vec<(u8, u8)> = bonds
         .split_whitespace()

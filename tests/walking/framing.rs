@@ -15,7 +15,7 @@ pub struct Stream {
     pub bytes: Vec<u8>,
 }
 
-/// Two records, the second refused: docs/SCOPE.md's example of `ringline`.
+/// Two records, the second refused: docs/REFERENCE.md's example of `ringline`.
 pub fn example() -> Vec<u8> {
     let triangle = record_bytes(&Sketch::ring(3).table(), None);
     [triangle, record_bytes(&Table::new(2, &[(0, 0)]), None)].concat()
@@ -24,7 +24,7 @@ pub fn example() -> Vec<u8> {
 pub fn streams(random: &mut Random) -> Vec<Stream> {
     let mut made = vec![
         stream("empty", Vec::new()),
-        stream("docs/SCOPE.md's example", example()),
+        stream("docs/REFERENCE.md's example", example()),
     ];
     cut(&mut made);
     other_fields(&mut made);

@@ -9,9 +9,9 @@
 //! walking serve PROGRAM [--wrong NAME]                     answers like the program, from the search
 //! ```
 //!
-//! PROGRAM is `ringline` or `vectors`. Options: `--seed N`, `--tables N` (random tables), `--records N` (the most records of
-//! one input), `--patience N` (seconds that one input may take). The exit status is 1 if something differs or fails,
-//! 2 if the arguments are not understood.
+//! PROGRAM is `ringline`, `answers` or `lookups`. Options: `--seed N`, `--tables N` (random tables), `--records N` (the most
+//! records of one input), `--patience N` (seconds that one input may take). The exit status is 1 if something differs or
+//! fails, 2 if the arguments are not understood.
 
 mod answers;
 mod compare;
@@ -19,6 +19,7 @@ mod damaged;
 mod examples;
 mod frames;
 mod framing;
+mod lists;
 mod protocol;
 mod random;
 mod selfcheck;
@@ -28,7 +29,7 @@ mod table;
 mod walk;
 mod wrong;
 
-use protocol::{Program, Search};
+use protocol::{Program, Search, PROGRAMS};
 use set::Wanted;
 use std::io::{Read, Write};
 use std::process::ExitCode;
@@ -97,8 +98,8 @@ fn program_called(read: &Arguments) -> Result<Program, String> {
     let name = read
         .plain
         .first()
-        .ok_or("which program, ringline or vectors?")?;
-    Program::called(name).ok_or(format!("{name} is neither ringline nor vectors"))
+        .ok_or("which program, ringline, answers or lookups?")?;
+    Program::called(name).ok_or(format!("{name} is not ringline, answers or lookups"))
 }
 
 /// Does what a mode says; false if something differs or fails.
@@ -132,7 +133,7 @@ fn run(mode: &str, mut read: Arguments) -> Result<bool, String> {
 /// Writes all inputs and what each program is expected to print.
 fn make(directory: &str, wanted: &Wanted) -> std::io::Result<bool> {
     std::fs::create_dir_all(directory)?;
-    for program in [Program::Ringline, Program::Vectors] {
+    for program in PROGRAMS {
         let mut search = Search::new(None);
         let batches = set::batches(program, wanted);
         for (place, batch) in batches.iter().enumerate() {

@@ -1,10 +1,10 @@
 //! What the programs read and print.
 //!
 //! A record is field 10 (hex) with the atom count in one byte, then field 11 with the bond bytes. `ringline` prints what
-//! docs/SCOPE.md says. `vectors` may find a field 1f (hex) after field 11, two bytes, high byte first: the room, the number of
+//! docs/REFERENCE.md says. `answers` may find a field 1f (hex) after field 11, two bytes, high byte first: the room, the number of
 //! items that every list-writing entry is lent. Without it the room is ROOM_UNSAID. No room is above MOST_ROOM.
 //!
-//! `vectors` prints for each record a line with its number from 1, then, words parted by single spaces:
+//! `answers` prints for each record a line with its number from 1, then, words parted by single spaces:
 //!
 //! ```text
 //! check NUMBER COUNT
@@ -13,22 +13,24 @@
 //! all, reduced, smallest like basis
 //! label NUMBER COUNT and all lent bytes as one hex word, absent where the room is 0
 //! sidecar like label
-//! lookup SIZE and the words handed back, for the sizes 0 and 3 to 8
 //! ```
 //!
-//! Numbers, counts and sizes are decimal; lent words and assemblies' bytes are lower-case hex without leading zeros; label
+//! Numbers and counts are decimal; lent words and assemblies' bytes are lower-case hex without leading zeros; label
 //! and sidecar have two digits a byte. Every lent element is printed after the call, the untouched rest too: word i is
-//! lent as WORD_LENT + i, byte i as BYTE_LENT + i modulo 256. The size lookup is given the whole lent list of the smallest
-//! basis first and the whole lent list of all rings second, both as they are after their calls.
+//! lent as WORD_LENT + i, byte i as BYTE_LENT + i modulo 256.
 //! A record cut short, or a field of another tag or length, prints the record's number and `frame` and ends the output.
+//!
+//! `lookups` reads lists (see `Lists`): for each record of `answers` the whole lent list of the smallest basis first and the
+//! whole lent list of all rings second, both as they are after their calls. It numbers the records, and says `frame`, likewise.
 
-use crate::answers::{field, lookup, outcome, Answer, Found};
+use crate::answers::{field, outcome, Answer, Found};
+use crate::lists::{lists_of, Lists, MOST_LISTS};
 use crate::table::Table;
 use crate::wrong::Wrong;
 use std::fmt::Write;
 use std::rc::Rc;
 
-/// The most bytes that `ringline` reads.
+/// The most bytes that `ringline` reads; no input of `answers` is longer.
 pub const MOST_INPUT: usize = 32_768;
 /// One word more than all rings of a table can need.
 pub const MOST_ROOM: usize = 6_548;
@@ -38,25 +40,34 @@ const BONDS_TAG: u8 = 0x11;
 const ROOM_TAG: u8 = 0x1f;
 const WORD_LENT: u64 = 0xa5a5_0000_0000_0000;
 const BYTE_LENT: usize = 0xa5;
-const SIZES_LOOKED_UP: [u32; 7] = [0, 3, 4, 5, 6, 7, 8];
 
 #[derive(Clone, Copy, PartialEq)]
 pub enum Program {
     Ringline,
-    Vectors,
+    Answers,
+    Lookups,
 }
+
+pub const PROGRAMS: [Program; 3] = [Program::Ringline, Program::Answers, Program::Lookups];
 
 impl Program {
     pub fn called(name: &str) -> Option<Program> {
-        [Program::Ringline, Program::Vectors]
-            .into_iter()
-            .find(|program| program.name() == name)
+        PROGRAMS.into_iter().find(|program| program.name() == name)
     }
 
     pub fn name(self) -> &'static str {
         match self {
             Program::Ringline => "ringline",
-            Program::Vectors => "vectors",
+            Program::Answers => "answers",
+            Program::Lookups => "lookups",
+        }
+    }
+
+    /// The most bytes of an input with records that are whole.
+    pub fn most_input(self) -> usize {
+        match self {
+            Program::Ringline | Program::Answers => MOST_INPUT,
+            Program::Lookups => MOST_LISTS,
         }
     }
 }
@@ -91,7 +102,7 @@ fn take_record(program: Program, input: &[u8]) -> Option<(Record, &[u8])> {
     let &[atoms] = atoms else { return None };
     let (bonds, mut rest) = take_field(rest, BONDS_TAG)?;
     let mut room = None;
-    if program == Program::Vectors && rest.first() == Some(&ROOM_TAG) {
+    if program == Program::Answers && rest.first() == Some(&ROOM_TAG) {
         let (said, after) = take_field(rest, ROOM_TAG)?;
         let &[high, low] = said else { return None };
         room = Some(usize::from(u16::from_be_bytes([high, low])));
@@ -111,7 +122,7 @@ fn take_record(program: Program, input: &[u8]) -> Option<(Record, &[u8])> {
     ))
 }
 
-/// The whole records of the input, and whether something else follows them.
+/// The whole records of an input of tables, and whether something else follows them.
 pub fn records(program: Program, mut input: &[u8]) -> (Vec<Record>, bool) {
     let mut records = Vec::new();
     while !input.is_empty() {
@@ -122,6 +133,14 @@ pub fn records(program: Program, mut input: &[u8]) -> (Vec<Record>, bool) {
         input = rest;
     }
     (records, false)
+}
+
+/// How many whole records an input of a program has.
+pub fn records_in(program: Program, input: &[u8]) -> usize {
+    match program {
+        Program::Lookups => lists_of(input).0.len(),
+        _ => records(program, input).0.len(),
+    }
 }
 
 /// A part of the printed text, and the place of the record that it answers. It ends with a line feed.
@@ -161,7 +180,8 @@ impl Search {
     pub fn text(&mut self, program: Program, input: &[u8]) -> Vec<Piece> {
         let mut pieces = match program {
             Program::Ringline => self.ringline_text(input),
-            Program::Vectors => self.vectors_text(input),
+            Program::Answers => self.answers_text(input),
+            Program::Lookups => self.lookups_text(input),
         };
         if let Some(wrong) = self.wrong {
             for piece in &mut pieces {
@@ -209,35 +229,66 @@ impl Search {
         pieces
     }
 
-    fn vectors_text(&mut self, input: &[u8]) -> Vec<Piece> {
-        let (records, broken) = records(Program::Vectors, input);
-        let mut pieces = Vec::new();
-        for (place, record) in records.iter().enumerate() {
-            let found = self.found(&record.table);
+    fn answers_text(&mut self, input: &[u8]) -> Vec<Piece> {
+        let (records, broken) = records(Program::Answers, input);
+        let lines = records.iter().map(|record| {
             let room = record.room.unwrap_or(ROOM_UNSAID);
-            let text = format!("{}\n{}", place + 1, vectors_answers(&found, room));
-            pieces.push(Piece {
-                record: Some(place),
-                text,
-            });
+            answer_lines(&self.found(&record.table), room)
+        });
+        numbered(lines.collect(), broken)
+    }
+
+    fn lookups_text(&self, input: &[u8]) -> Vec<Piece> {
+        let (records, broken) = lists_of(input);
+        let lines = records.iter().map(|lists| lists.lines(self.wrong));
+        numbered(lines.collect(), broken)
+    }
+
+    /// The bytes of the record that a program is given for a table and a room.
+    pub fn record(&mut self, program: Program, table: &Table, room: Option<usize>) -> Vec<u8> {
+        match program {
+            Program::Ringline => record_bytes(table, None),
+            Program::Answers => record_bytes(table, room),
+            Program::Lookups => looked_up(&self.found(table), room.unwrap_or(ROOM_UNSAID)).bytes(),
         }
-        if broken {
-            pieces.push(Piece {
-                record: None,
-                text: format!("{} frame\n", records.len() + 1),
-            });
-        }
-        pieces
     }
 }
 
-/// The lines that `vectors` prints for a table after the record's number: the whole protocol of its answers.
-fn vectors_answers(found: &Found, room: usize) -> String {
-    let words = || {
-        (0..room as u64)
-            .map(|i| WORD_LENT + i)
-            .collect::<Vec<u64>>()
+/// The lines of each record after its number from 1, and, where the input goes on with something else, the next number and
+/// `frame`.
+fn numbered(lines: Vec<String>, broken: bool) -> Vec<Piece> {
+    let frame = format!("{} frame\n", lines.len() + 1);
+    let number = |(place, lines): (usize, String)| Piece {
+        record: Some(place),
+        text: format!("{}\n{lines}", place + 1),
     };
+    let mut pieces: Vec<Piece> = lines.into_iter().enumerate().map(number).collect();
+    if broken {
+        pieces.push(Piece {
+            record: None,
+            text: frame,
+        });
+    }
+    pieces
+}
+
+/// So many words as they are lent.
+fn words_lent(room: usize) -> Vec<u64> {
+    (0..room as u64).map(|i| WORD_LENT + i).collect()
+}
+
+/// The lent lists of the smallest basis and of all rings after their calls.
+fn looked_up(found: &Found, room: usize) -> Lists {
+    let lent = |rings: &[u64]| outcome(found.refusal_of_rings(), rings, words_lent(room)).lent;
+    Lists {
+        first: lent(&found.smallest),
+        second: lent(&found.all),
+    }
+}
+
+/// The lines that `answers` prints for a table after the record's number: the whole protocol of its answers.
+fn answer_lines(found: &Found, room: usize) -> String {
+    let words = || words_lent(room);
     let bytes = || {
         (0..room)
             .map(|i| (BYTE_LENT + i) as u8)
@@ -245,8 +296,6 @@ fn vectors_answers(found: &Found, room: usize) -> String {
     };
     let own = found.refusal;
     let rings = found.refusal_of_rings();
-    let all = outcome(rings, &found.all, words());
-    let smallest = outcome(rings, &found.smallest, words());
     let count = if own == 0 { found.basis.len() } else { 0 };
     let mut text = format!("check {own} {count}\n");
     put_items(&mut text, "basis", &outcome(own, &found.basis, words()));
@@ -255,18 +304,15 @@ fn vectors_answers(found: &Found, room: usize) -> String {
         "assemblies",
         &outcome(own, &found.assemblies, bytes()),
     );
-    put_items(&mut text, "all", &all);
+    put_items(&mut text, "all", &outcome(rings, &found.all, words()));
     put_items(&mut text, "reduced", &outcome(own, &found.reduced, words()));
-    put_items(&mut text, "smallest", &smallest);
+    put_items(
+        &mut text,
+        "smallest",
+        &outcome(rings, &found.smallest, words()),
+    );
     put_bytes(&mut text, "label", &outcome(rings, &found.label, bytes()));
     put_bytes(&mut text, "sidecar", &outcome(own, &found.sidecar, bytes()));
-    for size in SIZES_LOOKED_UP {
-        let _ = write!(text, "lookup {size}");
-        for word in lookup(&smallest.lent, &all.lent, size) {
-            let _ = write!(text, " {word:x}");
-        }
-        text.push('\n');
-    }
     text
 }
 

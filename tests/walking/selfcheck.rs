@@ -1,10 +1,11 @@
-//! The search's own test: docs/SCOPE.md's examples, and other ways to the same answers.
+//! The search's own test: docs/REFERENCE.md's examples, and other ways to the same answers.
 
 use crate::answers::{lookup, outcome, sizes, smallest_basis, Found, ROOM, TANGLED};
 use crate::damaged::{all_sets_of_faults, at_the_edges};
 use crate::examples::{examples, Example};
 use crate::frames::{cages, complete, grown, hypercube, tangled};
 use crate::framing::example;
+use crate::lists::Lists;
 use crate::protocol::{hex, Program, Search};
 use crate::random::Random;
 use crate::set::small_graphs;
@@ -70,7 +71,7 @@ pub fn run(seed: u64) -> bool {
     report.failed.is_empty()
 }
 
-/// All values that docs/SCOPE.md gives for an example.
+/// The values of docs/REFERENCE.md for an example.
 fn document_example(report: &mut Report, example: &Example) {
     let found = Found::of(&example.table);
     let values = &example.values;
@@ -134,15 +135,15 @@ fn rooms_of_s14(report: &mut Report) {
     );
 }
 
-/// The input and the output that docs/SCOPE.md prints for `ringline`.
+/// What the search prints for a program.
+fn printed(program: Program, input: &[u8]) -> String {
+    let pieces = Search::new(None).text(program, input);
+    pieces.into_iter().map(|piece| piece.text).collect()
+}
+
+/// The input and the output that docs/REFERENCE.md prints for `ringline`.
 fn printed_example(report: &mut Report) {
-    let print = |input: &[u8]| {
-        Search::new(None)
-            .text(Program::Ringline, input)
-            .into_iter()
-            .map(|piece| piece.text)
-            .collect::<String>()
-    };
+    let print = |input: &[u8]| printed(Program::Ringline, input);
     report.check(
         hex(&example()) == "10000103110006000101020200100001021100020000",
         || "ringline's example input".into(),
@@ -188,6 +189,22 @@ fn size_lookup(report: &mut Report) {
             lookup(&first, &second, size),
         );
     }
+    let lists = Lists {
+        first: first.to_vec(),
+        second: second.to_vec(),
+    };
+    let wanted =
+        "1\nlookup 0 0 0\nlookup 3 7 b\nlookup 4 f\nlookup 5 1f 3d\nlookup 6\nlookup 7\nlookup 8\n";
+    report.same(
+        "lines of lookups",
+        &Some(wanted.to_string()),
+        printed(Program::Lookups, &lists.bytes()),
+    );
+    report.same(
+        "lists cut short",
+        &Some("1 frame\n".to_string()),
+        printed(Program::Lookups, &lists.bytes()[8..]),
+    );
 }
 
 /// Known numbers of rings, by the walk, by the formula for complete graphs, and by walking at random.

@@ -5,7 +5,7 @@ use crate::damaged::{all_sets_of_faults, at_the_edges};
 use crate::examples::examples;
 use crate::frames::{cages, grown, known, long, scattered, tangled};
 use crate::framing::streams;
-use crate::protocol::{record_bytes, Program, MOST_INPUT, MOST_ROOM};
+use crate::protocol::{Program, Search, MOST_ROOM};
 use crate::random::Random;
 use crate::table::{turn_some, Table};
 
@@ -201,7 +201,7 @@ pub fn cases(wanted: &Wanted) -> Vec<Case> {
     };
     for example in examples() {
         set.add(
-            "example of docs/SCOPE.md",
+            "example of docs/REFERENCE.md",
             example.table.clone(),
             Rooms::Every,
         );
@@ -226,8 +226,9 @@ pub fn cases(wanted: &Wanted) -> Vec<Case> {
     set.cases
 }
 
-/// All inputs of a program. Those of tables hold at most MOST_INPUT bytes; broken framing is tried on `ringline` only.
+/// All inputs of a program. Broken framing is tried on `ringline` only.
 pub fn batches(program: Program, wanted: &Wanted) -> Vec<Batch> {
+    let mut search = Search::new(None);
     let mut batches = vec![Batch::default()];
     for case in cases(wanted) {
         let rooms = if program == Program::Ringline {
@@ -236,9 +237,10 @@ pub fn batches(program: Program, wanted: &Wanted) -> Vec<Batch> {
             &case.rooms[..]
         };
         for &room in rooms {
-            let bytes = record_bytes(&case.table, room);
+            let bytes = search.record(program, &case.table, room);
             let last = &batches[batches.len() - 1];
-            if last.bytes.len() + bytes.len() > MOST_INPUT || last.notes.len() == wanted.records {
+            let full = last.bytes.len() + bytes.len() > program.most_input();
+            if full || last.notes.len() == wanted.records {
                 batches.push(Batch {
                     name: format!("tables {}", batches.len()),
                     ..Batch::default()

@@ -1,8 +1,8 @@
-//! The connection table and its refusals, as docs/SCOPE.md words them.
+//! The connection table and its refusals, those of docs/REFERENCE.md.
 
 use crate::random::Random;
 
-/// The limits of docs/SCOPE.md.
+/// The limits of docs/REFERENCE.md.
 pub const MOST_ATOMS: u64 = 64;
 pub const MOST_BONDS: usize = 64;
 

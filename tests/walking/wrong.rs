@@ -1,5 +1,5 @@
-//! Errors put into the search on demand, to see that a comparison reports them. Among them are docs/SCOPE.md's errors that
-//! look right.
+//! Errors put into the search on demand, to see that a comparison reports them. Among them are the traps of
+//! docs/REFERENCE.md. Those of the size lookup are put in where its lines are made (lists.rs).
 
 use crate::answers::{by_assembly, reduced_basis, smallest_basis, Found};
 use crate::table::Table;
@@ -102,26 +102,15 @@ impl Wrong {
 
     /// Spoils what is printed for a record.
     pub fn spoil_text(self, text: &str) -> String {
-        let smallest = text
-            .lines()
-            .find(|line| line.starts_with("smallest"))
-            .unwrap_or("");
         text.lines()
-            .map(|line| self.spoil_line(line, smallest) + "\n")
+            .map(|line| self.spoil_line(line) + "\n")
             .collect()
     }
 
-    /// Spoils a line; the line of the smallest basis stands beside it.
-    fn spoil_line(self, line: &str, smallest: &str) -> String {
+    fn spoil_line(self, line: &str) -> String {
         let words: Vec<&str> = line.split(' ').collect();
         match (self, words.as_slice()) {
             (EndAfterFrame, [number, "frame"]) => format!("{number} frame\nend {number}"),
-            (LookupFirstOnly, ["lookup", size, word, ..])
-                if !smallest.split(' ').any(|other| other == *word) =>
-            {
-                format!("lookup {size}")
-            }
-            (LookupOneWord, ["lookup", size, word, ..]) => format!("lookup {size} {word}"),
             (ExactFitRefused, ["basis" | "all" | "smallest", "0", count, lent @ ..])
                 if *count == lent.len().to_string() =>
             {

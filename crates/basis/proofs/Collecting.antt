@@ -1,32 +1,24 @@
 -- A loop over the numbers from 0 that puts a set into an array for each that passes a test: f k where p k. Assumes nothing.
-use mathlib.Core.Path.{_≡_, refl, sym, ap, ap₂, _∙_}
+use mathlib.Core.Path.{_≡_, refl, sym, ap₂, _∙_}
 use mathlib.Core.Bool.{Bool, true, false}
 use mathlib.Core.List.{List, [], _∷_, _++_}
 use Prim.Native.Nat.{ℕ, _+_, _≤_, _<_}
 use native.Mathlib.Numerals.{add-one}
-use native.Mathlib.Decide.{le-ind}
 use native.Mathlib.Omega.{arith}
 use lib.ListN.{length, getD, take, set, length-set}
 use lib.Seq.{take-suc-set, length-take-le, getD-set-other}
-use Rattle.sets.specs.Bond.{room}
 use Rattle.definitions.specs.Search.{listed}
+use Rattle.definitions.specs.Table.{maxBonds}
 use Rattle.definitions.proofs.Lists.{listed-zero, listed-skip, listed-take}
-
--- where no number from k up to n passes, as many are listed below both
-pub listed-gap : {A : Type 0} (p : ℕ → Bool) (f : ℕ → A) (k n : ℕ) → k ≤ n → ((j : ℕ) → k ≤ j → j < n → p j ≡ false) → listed n p f ≡ listed k p f
-listed-gap p f k n h none =
-    le-ind (λ m. ((j : ℕ) → k ≤ j → j < m → p j ≡ false) → listed m p f ≡ listed k p f) (λ z. refl)
-    (λ m (l : k ≤ m) ih z.
-    ap (λ (i : ℕ). listed i p f) (sym (add-one m)) ∙ listed-skip p f m refl (z m l (omega arith)) ∙ ih (λ j a b. z j a (omega arith))) n h none
 
 -- the sets of the numbers below k that pass stand at the start of the array, and empty ones after them
 pub record Collected (p : ℕ → Bool) (f : ℕ → ℕ) (sets : List ℕ) (n k : ℕ) : Type 0 where
-  pub long : length sets ≡ room
+  pub long : length sets ≡ maxBonds
   pub few : n ≤ k
   pub list : take n sets ≡ listed k p f
   pub blank : (i : ℕ) → n ≤ i → getD sets i 0 ≡ 0
 
-pub collected-none : (p : ℕ → Bool) (f : ℕ → ℕ) {sets : List ℕ} → length sets ≡ room → ((i : ℕ) → getD sets i 0 ≡ 0) → Collected p f sets 0 0
+pub collected-none : (p : ℕ → Bool) (f : ℕ → ℕ) {sets : List ℕ} → length sets ≡ maxBonds → ((i : ℕ) → getD sets i 0 ≡ 0) → Collected p f sets 0 0
 collected-none p f e z = record { long = e; few = omega arith; list = sym (listed-zero p f); blank = λ i h. z i }
 
 module _ {p : ℕ → Bool} {f : ℕ → ℕ} {sets : List ℕ} {n k : ℕ} (s : Collected p f sets n k) where
@@ -35,7 +27,7 @@ module _ {p : ℕ → Bool} {f : ℕ → ℕ} {sets : List ℕ} {n k : ℕ} (s :
   collected-skip e = record { long = s .long; few = omega (arith, s .few); list = s .list ∙ sym (listed-skip p f k refl e); blank = s .blank }
 
   -- the set of a number that passes is put into the array
-  pub collected-take : {x : ℕ} → k < room → p k ≡ true → x ≡ f k → Collected p f (set sets n x) (n + 1) (k + 1)
+  pub collected-take : {x : ℕ} → k < maxBonds → p k ≡ true → x ≡ f k → Collected p f (set sets n x) (n + 1) (k + 1)
   collected-take {x} l t e = record {
     long = simp length-set (s .long);
     few = omega (arith, s .few);
@@ -46,5 +38,5 @@ module _ {p : ℕ → Bool} {f : ℕ → ℕ} {sets : List ℕ} {n k : ℕ} (s :
   }
 
   -- there are as many as were counted
-  pub collected-count : k ≤ room → length (take n sets) ≡ n
+  pub collected-count : k ≤ maxBonds → length (take n sets) ≡ n
   collected-count h = length-take-le n sets (omega (arith, s .long, s .few))

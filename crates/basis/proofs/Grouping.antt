@@ -21,6 +21,7 @@ use Rattle.definitions.specs.Assembly.{Linked}
 use Rattle.definitions.specs.Assembly.Linked.{same, by as shares}
 use Rattle.definitions.proofs.Tests.{by, clashes, eqb-self, and-both, same-test, or-one}
 use Rattle.definitions.proofs.Linking.{linked-trans}
+use Rattle.definitions.proofs.Passing.{Passed, passed-next}
 use Rattle.basis.specs.Clusters.{Group, joinedBy, Grouped, Apart, Pass}
 use Rattle.basis.proofs.Putting.{put-new, put-old, put-from}
 
@@ -107,19 +108,17 @@ grouped-join {rs} {first} {all} {g} q i l h e = record {
 
 -- g is the group before the pass and h the group now; the rings below i were looked at, and i is the next ring left
 pub record Passing (rs : List ℕ) (g h : Group) (i : ℕ) : Type 0 where
-  pub within : i ≤ room
+  pub next : Passed room (h .left) i
   pub kept : (first all : ℕ) → Grouped rs first all g → Grouped rs first all h
   pub fewer : Sub (h .left) (g .left)
   pub seen : h .left ≡ g .left → (j : ℕ) → j < i → has (h .left) j ≡ true → meet (getD rs j 0) (h .bonds) ≡ false
-  pub next : i < room → has (h .left) i ≡ true
 
 pub passing-none : (rs : List ℕ) (g : Group) {i : ℕ} → IsNext room (g .left) 0 i → Passing rs g g i
 passing-none rs g n = record {
-  within = n .within;
+  next = passed-next n;
   kept = λ first all q. q;
   fewer = λ j e. e;
   seen = λ z j l e. clashes e (n .none j (omega arith) l);
-  next = n .member;
 }
 
 module _ {rs : List ℕ} {g h : Group} {i : ℕ} (p : Passing rs g h i) (l : i < room) where
@@ -127,11 +126,10 @@ module _ {rs : List ℕ} {g h : Group} {i : ℕ} (p : Passing rs g h i) (l : i <
   passing-joins : {q : ℕ} → meet (getD rs i 0) (h .bonds) ≡ true → IsNext room (without (h .left) i) (i + 1) q
       → Passing rs g (record { members = put room (h .members) i; bonds = bitOr (h .bonds) (getD rs i 0); left = without (h .left) i }) q
   passing-joins {q} e n = record {
-    within = n .within;
-    kept = λ first all o. grouped-join (p .kept first all o) i l (p .next l) e;
+    next = passed-next n;
+    kept = λ first all o. grouped-join (p .kept first all o) i l (p .next .member l) e;
     fewer = λ j t. p .fewer j (without-old (h .left) i j t);
-    seen = λ z. clashes (p .fewer i (p .next l)) (ap (λ (s : ℕ). has s i) (sym z) ∙ gone);
-    next = n .member;
+    seen = λ z. clashes (p .fewer i (p .next .member l)) (ap (λ (s : ℕ). has s i) (sym z) ∙ gone);
   }
     where
       gone : has (without (h .left) i) i ≡ false
@@ -140,13 +138,12 @@ module _ {rs : List ℕ} {g h : Group} {i : ℕ} (p : Passing rs g h i) (l : i <
   -- ring i does not join
   passing-stays : {q : ℕ} → meet (getD rs i 0) (h .bonds) ≡ false → IsNext room (h .left) (i + 1) q → Passing rs g h q
   passing-stays {q} e n = record {
-    within = n .within;
+    next = passed-next n;
     kept = p .kept;
     fewer = p .fewer;
     seen = λ z j m t.
         by (ltb j i) (λ b. p .seen z j (ltb-true j i b) t)
         (λ b. by (eqb j i) (λ c. rw (eqb-true j i c) e) (λ c. clashes t (n .none j (omega (arith, ltb-false j i b, eqb-false j i c)) m)));
-    next = n .member;
   }
 
   pub passing-turn : {h′ : Group} {s q : ℕ} → s ≡ getD rs i 0 → h′ ≡ joinedBy h i s → IsNext room (h′ .left) (i + 1) q → Passing rs g h′ q

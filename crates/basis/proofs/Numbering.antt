@@ -5,23 +5,26 @@ use mathlib.Core.Bool.{Bool, true, false, _&&_, not, and-true}
 use mathlib.Core.List.{List}
 use Prim.Native.Nat.{ℕ, _+_, _≤_, _<_, min}
 use native.Mathlib.Omega.{arith}
-use borrow.Author.Tests.{eqb-true, eqb-false, eq-eqb, ltb-true, ltb-false, lt-ltb, leb-true, leb-false, le-leb, ne-eqb, not-true}
+use borrow.Author.Tests.{eqb-true, eqb-false, eq-eqb, ltb-true, lt-ltb, leb-true, leb-false, le-leb, ne-eqb, not-true}
 use lib.Dec.{eqb, ltb, leb}
-use lib.ListN.{length, getD, set, length-set}
+use lib.ListN.{length, getD, set, replicate, length-set, length-replicate}
 use lib.Seq.{getD-set-same, getD-set-other}
 use Rattle.sets.specs.Bits.{has, allBelow, IsNext}
-use Rattle.sets.specs.Ring.{room}
+use Rattle.sets.specs.Ring.{bits, noRings, room}
+use Rattle.sets.specs.declared.ring.RingSet.{RingSet}
 use Rattle.sets.proofs.Laws.{ext, has-all-below}
 use Rattle.sets.proofs.Members.{common, meet-of}
+use Rattle.sets.proofs.Machine.{no-rings}
 use Rattle.definitions.specs.Search.{setOf}
+use Rattle.definitions.specs.Table.{maxBonds}
 use Rattle.definitions.specs.Assembly.{share?, assemblyCount, Linked}
 use Rattle.definitions.specs.Assembly.Linked.{same, by as shares}
-use Rattle.definitions.proofs.Tests.{by, clashes, and-both, both-and, not-passed, not-failed, same-test, eqb-self}
-use Rattle.definitions.proofs.Lists.{has-setOf, count-le}
+use Rattle.definitions.proofs.Tests.{by, clashes, and-both, both-and, not-passed, not-failed, same-test}
+use Rattle.definitions.proofs.Lists.{has-setOf, count-le, getD-same}
 use Rattle.definitions.proofs.Linking.{number, first?, assembly-count, number-below, number-next, number-all, linked-test, linked-trans, linked-closed}
-use Rattle.basis.specs.Held.{membersOf, AssembliesOf}
-use Rattle.basis.specs.Clusters.{Group, Grouped, Apart, FirstWith}
-use Rattle.basis.specs.declared.assembly.Assemblies.{Assemblies}
+use Rattle.basis.specs.Held.{AssembliesOf}
+use Rattle.basis.specs.Clusters.{Group, Grouped, Apart}
+use Rattle.basis.proofs.Holding.{members-at}
 
 -- not below n and not n is above n
 above : (t : Bool) (n x : ℕ) → t && leb n x && not (t && eqb x n) ≡ t && leb (n + 1) x
@@ -32,26 +35,26 @@ above true n x =
     (λ e. let p = leb-true (n + 1) x e in both-and (le-leb n x (omega arith)) (ap not (ne-eqb x n (omega arith))))
 
 -- the sets of the first n assemblies are found, and the rings of the others are left
-pub record Divided (rs : List ℕ) (sets : List ℕ) (n left : ℕ) : Type 0 where
-  pub long : length sets ≡ room
+pub record Divided (rs : List ℕ) (sets : List RingSet) (n left : ℕ) : Type 0 where
+  pub long : length sets ≡ maxBonds
   pub low : n ≤ assemblyCount rs
-  pub found : (a : ℕ) → a < n → getD sets a 0 ≡ setOf (length rs) (λ i. eqb (number rs i) a)
+  pub found : (a : ℕ) → a < n → bits (getD sets a noRings) ≡ setOf (length rs) (λ i. eqb (number rs i) a)
   pub rest : (i : ℕ) → has left i ≡ ltb i (length rs) && leb n (number rs i)
-  pub blank : (a : ℕ) → n ≤ a → getD sets a 0 ≡ 0
+  pub blank : (a : ℕ) → n ≤ a → bits (getD sets a noRings) ≡ 0
 
 -- at the start all rings are left
-pub divided-none : (rs : List ℕ) (sets : List ℕ) {left : ℕ} → length rs ≤ room → length sets ≡ room → ((a : ℕ) → getD sets a 0 ≡ 0) → left ≡ allBelow (min (length rs) room) → Divided rs sets 0 left
-divided-none rs sets few e z l = record {
-  long = e;
+pub divided-none : (rs : List ℕ) {sets : List RingSet} {left : ℕ} → length rs ≤ room → sets ≡ replicate maxBonds noRings → left ≡ allBelow (min (length rs) room) → Divided rs sets 0 left
+divided-none rs few e l = rw e (record {
+  long = length-replicate maxBonds noRings;
   low = omega arith;
   found = λ a h. absurd (omega arith);
   rest = λ i.
       let short : min (length rs) room ≡ length rs = omega arith in
       rw (l, short, le-leb 0 (number rs i) (omega arith)) (has-all-below (length rs) i ∙ sym (and-true (ltb i (length rs))));
-  blank = λ a h. z a;
-}
+  blank = λ a h. ap bits (getD-same maxBonds a noRings) ∙ no-rings;
+})
 
-module _ {rs : List ℕ} {sets : List ℕ} {n left : ℕ} (d : Divided rs sets n left) where
+module _ {rs : List ℕ} {sets : List RingSet} {n left : ℕ} (d : Divided rs sets n left) where
   -- a ring that is left has a number that is not used
   left-number : (i : ℕ) → has left i ≡ true → (i < length rs) × (n ≤ number rs i)
   left-number i h =
@@ -72,7 +75,7 @@ module _ {rs : List ℕ} {sets : List ℕ} {n left : ℕ} (d : Divided rs sets n
   pub divided-all : {first : ℕ} → length rs ≤ room → IsNext room left 0 first → room ≤ first → AssembliesOf rs (record { members = sets; count = n })
   divided-all few next h =
       let e = number-all rs n (d .low) (λ j l. used j l (next .none j (omega arith) (omega arith))) in
-      record { count = e; counted = omega (arith, assembly-count rs, count-le (first? rs) (length rs)); members = d .found; blank = d .blank }
+      record { count = e; counted = omega (arith, assembly-count rs, count-le (first? rs) (length rs)); members = λ a l. members-at sets a ∙ d .found a l; blank = λ a l. members-at sets a ∙ d .blank a l }
 
   module _ {first : ℕ} (few : length rs ≤ room) (next : IsNext room left 0 first) (h : first < room) where
     -- the first ring left has the next number
@@ -120,32 +123,14 @@ module _ {rs : List ℕ} {sets : List ℕ} {n left : ℕ} (d : Divided rs sets n
       rest-are : (i : ℕ) → has (g .left) i ≡ ltb i (length rs) && leb (n + 1) (number rs i)
       rest-are i = q .other i ∙ ap₂ (λ (x y : Bool). x && not y) (d .rest i) (members-are i) ∙ above (ltb i (length rs)) n (number rs i)
 
-      pub divided-more : {x : ℕ} → x ≡ g .members → Divided rs (set sets n x) (n + 1) (g .left)
+      pub divided-more : {x : RingSet} → bits x ≡ g .members → Divided rs (set sets n x) (n + 1) (g .left)
       divided-more {x} e = record {
         long = simp length-set (d .long);
         low = omega (arith, next-number, number-below rs first first-below);
         found = λ b l.
             by (eqb b n)
-            (λ t. rw (eqb-true b n t) (getD-set-same sets n x 0 (omega (arith, divided-room, d .long)) ∙ e ∙ assembly))
-            (λ t. getD-set-other sets n b x 0 (eqb-false b n t) ∙ d .found b (omega (arith, eqb-false b n t)));
+            (λ t. rw (eqb-true b n t) (ap bits (getD-set-same sets n x noRings (omega (arith, divided-room, d .long))) ∙ e ∙ assembly))
+            (λ t. ap bits (getD-set-other sets n b x noRings (eqb-false b n t)) ∙ d .found b (omega (arith, eqb-false b n t)));
         rest = rest-are;
-        blank = λ b l. getD-set-other sets n b x 0 (omega arith) ∙ d .blank b (omega arith);
+        blank = λ b l. ap bits (getD-set-other sets n b x noRings (omega arith)) ∙ d .blank b (omega arith);
       }
-
--- ---- the assembly of a ring
-
-pub assembly-found : {rs : List ℕ} {s : Assemblies} {i a : ℕ} → AssembliesOf rs s → i < length rs → FirstWith (s .count) (membersOf s) i a → a ≡ number rs i
-assembly-found {rs} {s} {i} {a} o l f =
-    by (ltb a x) (λ t. sym (eqb-true x a (sym (member a (omega (arith, ltb-true a x t, low))) ∙ f .here (omega (arith, ltb-true a x t, low)))))
-    (λ t. by (ltb x a) (λ u. clashes (member x low ∙ eqb-self x) (f .none-before x (ltb-true x a u))) (λ u. omega (arith, ltb-false a x t, ltb-false x a u)))
-  where
-    x : ℕ
-    x = number rs i
-
-    low : x < s .count
-    low = omega (arith, number-below rs i l, o .count)
-
-    member : (b : ℕ) → b < s .count → has (membersOf s b) i ≡ eqb x b
-    member b h =
-        ap (λ (t : ℕ). has t i) (o .members b h) ∙ has-setOf (length rs) (λ j. eqb (number rs j) b) i
-        ∙ ap (λ (t : Bool). t && eqb x b) (lt-ltb i (length rs) l)

@@ -8,14 +8,16 @@ use native.Mathlib.Omega.{arith}
 use borrow.Author.Tests.{eqb-true, eqb-false, eq-eqb, ne-eqb, ltb-true, ltb-false}
 use lib.Bits.{bitXor}
 use lib.Dec.{eqb, ltb}
-use lib.ListN.{length, getD, take, set, length-set}
+use lib.ListN.{length, getD, take, set, replicate, length-set, length-replicate}
 use lib.Seq.{getD-set-same, getD-set-other}
 use Rattle.sets.specs.Bits.{put}
 use Rattle.sets.specs.Bond.{room}
+use Rattle.sets.specs.Lists.{setsIn}
 use Rattle.definitions.specs.Search.{listed}
-use Rattle.definitions.specs.Table.{Table, bonds, tail, head, maxAtoms}
+use Rattle.definitions.specs.Table.{Table, bonds, tail, head, maxAtoms, maxBonds}
 use Rattle.definitions.specs.Basis.{fragments, closure?, basisRing, basisRings}
 use Rattle.definitions.proofs.Tests.{by}
+use Rattle.definitions.proofs.Lists.{getD-same}
 use Rattle.definitions.proofs.Classes.{merged, merged-same}
 use Rattle.definitions.proofs.Paths.{fragments-more}
 use Rattle.definitions.proofs.Refusals.{Valid}
@@ -24,7 +26,7 @@ use Rattle.basis.specs.Climbing.Climbed.{start, on}
 use Rattle.basis.specs.Held.{BasisOf}
 use Rattle.basis.proofs.Leading.{Leads, set-falling, leads-same, own-leads, climbed-low, climbs-number, settled-last, settled-leads, joined-leads}
 use Rattle.basis.proofs.Ways.{Between, between-none, between-turn, between-sum, between-more, round-between, round-ring}
-use Rattle.basis.proofs.Collecting.{Collected, collected-skip, collected-take, collected-count}
+use Rattle.basis.proofs.Collecting.{Collected, collected-none, collected-skip, collected-take, collected-count}
 
 -- for each atom there is a way to the atom that it leads to
 abbrev pub Ways : Table → ℕ → List ℕ → List ℕ → Type 0
@@ -46,18 +48,17 @@ pub record Tried (M : Table) (lower ways rings : List ℕ) (n k : ℕ) : Type 0 
   pub found : Collected (closure? M) (basisRing M) rings n k
 
 -- before the first bond each atom leads to itself
-pub tried-none : (M : Table) (lower ways rings : List ℕ) → length lower ≡ maxAtoms → length ways ≡ maxAtoms → Falling lower
-    → ((a : ℕ) → a < M .atoms → getD lower a 0 ≡ a) → ((a : ℕ) → getD ways a 0 ≡ 0) → Collected (closure? M) (basisRing M) rings 0 0
-    → Tried M lower ways rings 0 0
-tried-none M lower ways rings e f falls own z s = record {
+pub tried-none : (M : Table) (lower : List ℕ) {ways rings : List ℕ} → length lower ≡ maxAtoms → Falling lower → ((a : ℕ) → a < M .atoms → getD lower a 0 ≡ a)
+    → ways ≡ replicate maxAtoms 0 → rings ≡ replicate maxBonds 0 → Tried M lower ways rings 0 0
+tried-none M lower e falls own ew er = rw (ew, er) (record {
   within = omega arith;
   atoms = e;
-  places = f;
+  places = length-replicate {A = ℕ} maxAtoms 0;
   falling = falls;
   leads = own-leads M lower own;
-  known = λ a h. rw (own a h, z a) (between-none M 0 a);
-  found = s;
-}
+  known = λ a h. rw (own a h, getD-same {A = ℕ} maxAtoms a 0) (between-none M 0 a);
+  found = collected-none (closure? M) (basisRing M) (length-replicate {A = ℕ} maxBonds 0) (λ i. getD-same maxBonds i 0);
+})
 
 -- from atom a a climb came to x, the first of its fragment, by a way
 pub record Reached (M : Table) (lower : List ℕ) (k a x w : ℕ) : Type 0 where
@@ -195,10 +196,10 @@ module _ {M : Table} {lower ways rings : List ℕ} {n k : ℕ} (t : Tried M lowe
   tried-turn = (tried-ring, tried-join)
 
 -- after the last bond the rings are the basis rings
-pub tried-all : {M : Table} {lower ways rings : List ℕ} {n k : ℕ} → Valid M → Tried M lower ways rings n k → bonds M ≤ k → BasisOf M (record { rings = rings; count = n })
+pub tried-all : {M : Table} {lower ways rings : List ℕ} {n k : ℕ} → Valid M → Tried M lower ways (setsIn rings) n k → bonds M ≤ k → BasisOf M (record { rings = rings; count = n })
 unfolding basisRings
 tried-all {M} {rings = rings} {n = n} valid t h =
-    let whole : take n rings ≡ listed (bonds M) (closure? M) (basisRing M) = t .found .list ∙ ap (λ (i : ℕ). listed i (closure? M) (basisRing M)) (le-antisymm (t .within) h) in
+    let whole : take n (setsIn rings) ≡ listed (bonds M) (closure? M) (basisRing M) = t .found .list ∙ ap (λ (i : ℕ). listed i (closure? M) (basisRing M)) (le-antisymm (t .within) h) in
     record {
       rings = whole;
       count = sym (collected-count (t .found) (omega (arith, t .within, valid .few-bonds))) ∙ ap length whole;

@@ -1,9 +1,8 @@
--- What the steps that collect an assembly do.
--- Assumes nothing.
+-- What the steps that collect the assemblies and write their numbers do. Assumes nothing.
 use mathlib.Core.Path.{_≡_}
-use mathlib.Core.Bool.{true, false, _&&_, not, cond}
+use mathlib.Core.Bool.{Bool, true, false, _&&_, not, cond}
 use mathlib.Core.List.{List}
-use Prim.Native.Nat.{ℕ, _≤_, _<_}
+use Prim.Native.Nat.{ℕ, _<_}
 use lib.Bits.{bitOr}
 use lib.ListN.{length, getD}
 use Rattle.sets.specs.Bits.{has, Sub, meet, put, without}
@@ -45,8 +44,7 @@ pub record Pass (rs : List ℕ) (g h : Group) : Type 0 where
   pub fewer : Sub (h .left) (g .left)
   pub done : h .left ≡ g .left → Apart rs h
 
--- a is the first of n assemblies that has ring i, or n
-pub record FirstWith (n : ℕ) (members : ℕ → ℕ) (i a : ℕ) : Type 0 where
-  pub within : a ≤ n
-  pub here : a < n → has (members a) i ≡ true
-  pub none-before : (b : ℕ) → b < a → has (members b) i ≡ false
+-- in a list f i is written at each place i that passes, and the other places are as they were
+pub record Numbered (p : ℕ → Bool) (f : ℕ → ℕ) (before after : List ℕ) : Type 0 where
+  pub long : length after ≡ length before
+  pub at : (i : ℕ) → getD after i 0 ≡ cond (p i) (f i) (getD before i 0)

@@ -1,8 +1,10 @@
 // The assemblies of basis rings, as 000 finds them: the first ring left starts an assembly, and the rings left that share a bond with
 // it are added, until a pass over those left adds none.
+use answers::BASIS_WORDS;
+use answers::MAX_BONDS;
 use sets::BondSet;
 use sets::RingSet;
-use table::MAX_BONDS;
+use sets::list::sets_in;
 ghost use mathlib.Core.Path.{_≡_};
 ghost use mathlib.Core.Bool.{true};
 ghost use mathlib.Core.List.{List};
@@ -11,15 +13,16 @@ ghost use lib.ListN.{length, getD, take};
 ghost use Rattle.sets.specs.Bits.{has};
 ghost use Rattle.sets.specs.Bond.{bits as bondBits};
 ghost use Rattle.sets.specs.Ring.{bits as ringBits};
+ghost use Rattle.sets.specs.Lists.{setsIn};
 ghost use Rattle.definitions.specs.Table.{maxBonds};
 ghost use Rattle.definitions.specs.Assembly.{assembliesOf};
 ghost use Rattle.definitions.specs.Answer.{over};
-ghost use Rattle.basis.specs.Held.{AssembliesOf};
-ghost use Rattle.basis.specs.Clusters.{groupOf, joinedBy, Grouped, Apart, Pass, FirstWith};
+ghost use Rattle.basis.specs.Held.{membersOf, AssembliesOf};
+ghost use Rattle.basis.specs.Clusters.{groupOf, joinedBy, Grouped, Apart, Pass, Numbered};
 
-// The assemblies in order, each as the set of its basis rings: the first count words, each the word of a set.
+// The assemblies in order, each as the set of its basis rings: the first count sets.
 pub struct Assemblies {
-    pub members: [u64; MAX_BONDS],
+    pub members: [RingSet; MAX_BONDS],
     pub count: usize,
 }
 
@@ -47,14 +50,14 @@ impl Cluster {
     }
 
     // One pass over the rings left.
-    fn passed(self, rings: &[u64; MAX_BONDS], count: usize) -> Cluster
+    fn passed(self, rings: &[u64; BASIS_WORDS], count: usize) -> Cluster
         requires { ⌜ (count ≤ maxBonds) × ((i : ℕ) → has (ringBits (self .left)) i ≡ true → i < count) ⌝ }
-        ensures { λ r. ⌜ Pass (take count (now (rings .entry))) (groupOf self) (groupOf r) ⌝ }
+        ensures { λ r. ⌜ Pass (take count (setsIn (now (rings .entry)))) (groupOf self) (groupOf r) ⌝ }
     {
         let mut cluster = self;
         let mut i = cluster.left.next(0);
         while i < count {
-            cluster = cluster.joined(i, BondSet::of_word(rings[i]));
+            cluster = cluster.joined(i, BondSet::at(rings, i));
             i = cluster.left.next(i + 1);
         }
         cluster
@@ -62,13 +65,13 @@ impl Cluster {
 }
 
 // The cluster of a ring, collected from the rings left.
-fn cluster_of(rings: &[u64; MAX_BONDS], count: usize, first: usize, left: RingSet) -> Cluster
-    requires { ⌜ (length (now rings) ≡ maxBonds) × (count ≤ maxBonds) × (has (ringBits left) first ≡ true) × ((i : ℕ) → has (ringBits left) i ≡ true → i < count) ⌝ }
-    ensures { λ r. ⌜ Grouped (take count (now (rings .entry))) first (ringBits left) (groupOf r) × Apart (take count (now (rings .entry))) (groupOf r) ⌝ }
+fn cluster_of(rings: &[u64; BASIS_WORDS], count: usize, first: usize, left: RingSet) -> Cluster
+    requires { ⌜ (count ≤ maxBonds) × (has (ringBits left) first ≡ true) × ((i : ℕ) → has (ringBits left) i ≡ true → i < count) ⌝ }
+    ensures { λ r. ⌜ Grouped (take count (setsIn (now (rings .entry)))) first (ringBits left) (groupOf r) × Apart (take count (setsIn (now (rings .entry)))) (groupOf r) ⌝ }
 {
     let mut cluster = Cluster {
         members: RingSet::only(first),
-        bonds: BondSet::of_word(rings[first]),
+        bonds: BondSet::at(rings, first),
         left: left.without(first),
     };
     let mut grew = true;
@@ -81,17 +84,19 @@ fn cluster_of(rings: &[u64; MAX_BONDS], count: usize, first: usize, left: RingSe
 }
 
 // The assemblies of the first basis rings of a list.
-pub fn assemblies_of(rings: &[u64; MAX_BONDS], count: usize) -> Assemblies
-    requires { ⌜ (length (now rings) ≡ maxBonds) × (count ≤ maxBonds) ⌝ }
-    ensures { λ r. ⌜ AssembliesOf (take count (now (rings .entry))) r ⌝ }
+pub fn assemblies_of(rings: &[u64; BASIS_WORDS], count: usize) -> Assemblies
+    requires { ⌜ count ≤ maxBonds ⌝ }
+    ensures { λ r. ⌜ AssembliesOf (take count (setsIn (now (rings .entry)))) r ⌝ }
 {
-    let mut members = [0u64; MAX_BONDS];
+    let places = sets_in(rings);
+    let mut members = [RingSet::EMPTY; MAX_BONDS];
     let mut assemblies: usize = 0;
     let mut left = RingSet::below(count);
     let mut first = left.next(0);
-    while first < MAX_BONDS {
+    while first < places {
         let cluster = cluster_of(rings, count, first, left);
-        members[assemblies] = cluster.members.0;
+        let found = cluster.members;
+        members[assemblies] = found;
         assemblies += 1;
         left = cluster.left;
         first = left.next(0);
@@ -102,34 +107,26 @@ pub fn assemblies_of(rings: &[u64; MAX_BONDS], count: usize) -> Assemblies
     }
 }
 
-// The first assembly that has basis ring i, or the number of assemblies where there is none.
-fn assembly_with(members: &[u64; MAX_BONDS], count: usize, i: usize) -> usize
-    requires { ⌜ count ≤ maxBonds ⌝ }
-    ensures { λ r. ⌜ FirstWith count (λ a. getD (now (members .entry)) a 0) i r ⌝ }
+// Writes the number of an assembly at the place of each of its basis rings.
+fn number_members(members: RingSet, a: u8, out: &mut [u8])
+    requires { ⌜ ((i : ℕ) → has (ringBits members) i ≡ true → i < length (now out)) ⌝ }
+    ensures { λ _. ⌜ Numbered (has (ringBits members)) (λ i. a) (now (out .entry)) (now (out .exit)) ⌝ }
 {
-    let mut a: usize = 0;
-    while a < count {
-        if RingSet::of_word(members[a]).has(i) {
-            return a;
-        }
-        a += 1;
+    let mut i = members.next(0);
+    while i <= RingSet::LAST {
+        out[i] = a;
+        i = members.next(i + 1);
     }
-    a
 }
 
-// Writes the assembly of each of so many basis rings over the start of a list.
-pub(crate) fn write_assemblies(
-    rings: usize,
-    members: &[u64; MAX_BONDS],
-    assemblies: usize,
-    out: &mut [u8],
-)
-    requires { ⌜ (assemblies ≤ maxBonds) × (rings ≤ length (now out)) ⌝ }
-    ensures { λ _. ⌜ ((rs : List ℕ) → length rs ≡ rings → AssembliesOf rs (record { members = now (members .entry); count = assemblies }) → now (out .exit) ≡ over (assembliesOf rs) (now (out .entry))) ⌝ }
+// Writes the assembly of each basis ring over the start of a list.
+pub(crate) fn write_assemblies(found: Assemblies, out: &mut [u8])
+    requires { ⌜ (found .count ≤ maxBonds) × ((a i : ℕ) → has (getD (membersOf found) a 0) i ≡ true → i < length (now out)) ⌝ }
+    ensures { λ _. ⌜ ((rs : List ℕ) → length rs ≤ length (now (out .entry)) → AssembliesOf rs found → now (out .exit) ≡ over (assembliesOf rs) (now (out .entry))) ⌝ }
 {
-    let mut i: usize = 0;
-    while i < rings {
-        out[i] = assembly_with(members, assemblies, i) as u8;
-        i += 1;
+    let mut a: usize = 0;
+    while a < found.count {
+        number_members(found.members[a], a as u8, out);
+        a += 1;
     }
 }

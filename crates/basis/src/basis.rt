@@ -3,17 +3,17 @@ use super::climb::apart;
 use super::climb::climb_from;
 use super::climb::join;
 use super::climb::settle;
-use sets::BondSet;
-use table::MAX_ATOMS;
-use table::MAX_BONDS;
-use table::end_at;
+use answers::BASIS_WORDS;
+use answers::MAX_ATOMS;
+use sets::WORDS;
+use table::ends_of;
 ghost use mathlib.Core.Path.{_≡_};
 ghost use Rattle.definitions.specs.Table.{table, refusal};
 ghost use Rattle.basis.specs.Held.{BasisOf};
 
-// The basis rings of a table in order of closure bonds: the first count words, each the word of a set, so that they can be lent.
+// The basis rings of a table in order of closure bonds: the first count sets of a list.
 pub struct Basis {
-    pub rings: [u64; MAX_BONDS],
+    pub rings: [u64; BASIS_WORDS],
     pub count: usize,
 }
 
@@ -24,20 +24,19 @@ pub fn basis_of(atoms: u64, bonds: &[u8]) -> Basis
     ensures { λ r. ⌜ BasisOf (table atoms (now (bonds .entry))) r ⌝ }
 {
     let mut lower = apart(atoms as usize);
-    let mut ways = [0u64; MAX_ATOMS];
-    let mut rings = [0u64; MAX_BONDS];
+    let mut ways = [0u64; MAX_ATOMS * WORDS];
+    let mut rings = [0u64; BASIS_WORDS];
     let mut count: usize = 0;
     let mut k: usize = 0;
     while k < bonds.len() / 2 {
-        let tail = end_at(bonds, 2 * k);
-        let one = climb_from(&lower, &ways, tail);
-        settle(&mut lower, &mut ways, tail, one);
-        let head = end_at(bonds, 2 * k + 1);
-        let other = climb_from(&lower, &ways, head);
-        settle(&mut lower, &mut ways, head, other);
+        let ends = ends_of(bonds, k);
+        let one = climb_from(&lower, &ways, ends.tail);
+        settle(&mut lower, &mut ways, ends.tail, one);
+        let other = climb_from(&lower, &ways, ends.head);
+        settle(&mut lower, &mut ways, ends.head, other);
         let round = one.bonds.sum(other.bonds).with(k);
         if one.atom == other.atom {
-            rings[count] = round.0;
+            round.put_at(&mut rings, count);
             count += 1;
         } else {
             join(&mut lower, &mut ways, one.atom, other.atom, round);

@@ -1,11 +1,13 @@
 // The fragments of the bonds tried so far. Each atom leads to itself or to a lower atom of its fragment, at last to the first of all,
 // and has the set of bonds of a way there: in a sum of ways the bonds gone over twice fall out.
+use answers::MAX_ATOMS;
 use sets::BondSet;
-use table::MAX_ATOMS;
+use sets::WORDS;
 ghost use mathlib.Core.Path.{_≡_};
 ghost use Prim.Native.Nat.{ℕ, _≤_, _<_, min, max};
 ghost use lib.ListN.{getD, set};
 ghost use Rattle.sets.specs.Bond.{bits};
+ghost use Rattle.sets.specs.Lists.{setsIn};
 ghost use Rattle.definitions.specs.Table.{maxAtoms};
 ghost use Rattle.basis.specs.Climbing.{Falling, Climbs};
 
@@ -30,14 +32,18 @@ pub(crate) fn apart(atoms: usize) -> [usize; MAX_ATOMS]
 }
 
 // From an atom to the first atom of its fragment.
-pub(crate) fn climb_from(lower: &[usize; MAX_ATOMS], ways: &[u64; MAX_ATOMS], atom: usize) -> Climb
+pub(crate) fn climb_from(
+    lower: &[usize; MAX_ATOMS],
+    ways: &[u64; MAX_ATOMS * WORDS],
+    atom: usize,
+) -> Climb
     requires { ⌜ Falling (now lower) × (atom < maxAtoms) ⌝ }
-    ensures { λ r. ⌜ Climbs (now (lower .entry)) (now (ways .entry)) atom (r .atom) (bits (r .bonds)) ⌝ }
+    ensures { λ r. ⌜ Climbs (now (lower .entry)) (setsIn (now (ways .entry))) atom (r .atom) (bits (r .bonds)) ⌝ }
 {
     let mut a = atom;
     let mut bonds = BondSet::EMPTY;
     while lower[a] < a {
-        bonds = bonds.sum(BondSet::of_word(ways[a]));
+        bonds = bonds.sum(BondSet::at(ways, a));
         a = lower[a];
     }
     Climb { atom: a, bonds }
@@ -46,33 +52,33 @@ pub(crate) fn climb_from(lower: &[usize; MAX_ATOMS], ways: &[u64; MAX_ATOMS], at
 // An atom leads straight to where the climb from it came, so that the next climb from there is short.
 pub(crate) fn settle(
     lower: &mut [usize; MAX_ATOMS],
-    ways: &mut [u64; MAX_ATOMS],
+    ways: &mut [u64; MAX_ATOMS * WORDS],
     atom: usize,
     climb: Climb,
 )
     requires { ⌜ atom < maxAtoms ⌝ }
-    ensures { λ _. ⌜ (now (lower .exit) ≡ set (now (lower .entry)) atom (climb .atom)) × (now (ways .exit) ≡ set (now (ways .entry)) atom (bits (climb .bonds))) ⌝ }
+    ensures { λ _. ⌜ (now (lower .exit) ≡ set (now (lower .entry)) atom (climb .atom)) × (setsIn (now (ways .exit)) ≡ set (setsIn (now (ways .entry))) atom (bits (climb .bonds))) ⌝ }
 {
     lower[atom] = climb.atom;
-    ways[atom] = climb.bonds.0;
+    climb.bonds.put_at(ways, atom);
 }
 
 // Two fragments made one, given by their first atoms: the larger leads to the smaller by these bonds.
 pub(crate) fn join(
     lower: &mut [usize; MAX_ATOMS],
-    ways: &mut [u64; MAX_ATOMS],
+    ways: &mut [u64; MAX_ATOMS * WORDS],
     a: usize,
     b: usize,
     bonds: BondSet,
 )
     requires { ⌜ (a < maxAtoms) × (b < maxAtoms) ⌝ }
-    ensures { λ _. ⌜ (now (lower .exit) ≡ set (now (lower .entry)) (max a b) (min a b)) × (now (ways .exit) ≡ set (now (ways .entry)) (max a b) (bits bonds)) ⌝ }
+    ensures { λ _. ⌜ (now (lower .exit) ≡ set (now (lower .entry)) (max a b) (min a b)) × (setsIn (now (ways .exit)) ≡ set (setsIn (now (ways .entry))) (max a b) (bits bonds)) ⌝ }
 {
     if a < b {
         lower[b] = a;
-        ways[b] = bonds.0;
+        bonds.put_at(ways, b);
     } else {
         lower[a] = b;
-        ways[a] = bonds.0;
+        bonds.put_at(ways, a);
     }
 }

@@ -1,37 +1,54 @@
-// The basis rings of a table and the assemblies that they form.
+// The basis rings of a table and the assemblies that they form; the table check, which counts the basis rings.
 mod assembly;
 mod basis;
 mod climb;
 
+use answers::Answer;
+use answers::ROOM;
+use answers::write_sets;
 pub use assembly::Assemblies;
 pub use assembly::assemblies_of;
 use assembly::write_assemblies;
 pub use basis::Basis;
 pub use basis::basis_of;
-use table::Answer;
-use table::ROOM;
-use table::write_words;
 ghost use mathlib.Core.Path.{_≡_};
+ghost use mathlib.Core.List.{[]};
+ghost use lib.ListN.{length};
 ghost use Rattle.definitions.specs.Table.{table, refusal};
 ghost use Rattle.definitions.specs.Basis.{basisRings};
 ghost use Rattle.definitions.specs.Assembly as spec;
-ghost use Rattle.definitions.specs.Answer.{outcomeOf, outcome};
+ghost use Rattle.definitions.specs.Answer.{outcomeOf, counted, written, writtenSets};
 
-// The basis rings: the words of the sets, in order of closure bonds.
+// The table check: 0 and the number of basis rings, or the number of the refusal and 0.
+pub fn check(atoms: u64, bonds: &[u8]) -> Answer
+    ensures { λ r. ⌜ outcomeOf (r .number) (r .count) [] ≡ counted (refusal (table atoms (now (bonds .entry)))) (length (basisRings (table atoms (now (bonds .entry))))) ⌝ }
+{
+    let number = table::refusal_of(atoms, bonds);
+    if number == 0 {
+        let basis = basis_of(atoms, bonds);
+        return Answer {
+            number: 0,
+            count: basis.count,
+        };
+    }
+    Answer { number, count: 0 }
+}
+
+// The basis rings: sets as words, in order of closure bonds.
 pub fn basis_rings(atoms: u64, bonds: &[u8], out: &mut [u64]) -> Answer
-    ensures { λ r. ⌜ outcomeOf (r .number) (r .count) (now (out .exit)) ≡ outcome (refusal (table atoms (now (bonds .entry)))) (basisRings (table atoms (now (bonds .entry)))) (now (out .entry)) ⌝ }
+    ensures { λ r. ⌜ outcomeOf (r .number) (r .count) (now (out .exit)) ≡ writtenSets (refusal (table atoms (now (bonds .entry)))) (basisRings (table atoms (now (bonds .entry)))) (now (out .entry)) ⌝ }
 {
     let number = table::refusal_of(atoms, bonds);
     if number > 0 {
         return Answer { number, count: 0 };
     }
     let basis = basis_of(atoms, bonds);
-    write_words(&basis.rings, basis.count, out)
+    write_sets(&basis.rings, basis.count, out)
 }
 
 // The assemblies: for each basis ring the number of its assembly, in one byte.
 pub fn assemblies(atoms: u64, bonds: &[u8], out: &mut [u8]) -> Answer
-    ensures { λ r. ⌜ outcomeOf (r .number) (r .count) (now (out .exit)) ≡ outcome (refusal (table atoms (now (bonds .entry)))) (spec.assemblies (table atoms (now (bonds .entry)))) (now (out .entry)) ⌝ }
+    ensures { λ r. ⌜ outcomeOf (r .number) (r .count) (now (out .exit)) ≡ written (refusal (table atoms (now (bonds .entry)))) (spec.assemblies (table atoms (now (bonds .entry)))) (now (out .entry)) ⌝ }
 {
     let number = table::refusal_of(atoms, bonds);
     if number > 0 {
@@ -46,7 +63,7 @@ pub fn assemblies(atoms: u64, bonds: &[u8], out: &mut [u8]) -> Answer
         };
     }
     let found = assemblies_of(&basis.rings, rings);
-    write_assemblies(rings, &found.members, found.count, out);
+    write_assemblies(found, out);
     Answer {
         number: 0,
         count: rings,

@@ -7,12 +7,10 @@ use mathlib.Core.Logic.{_↔_, _≢_}
 use mathlib.Core.Bool.{Bool, true, false, _&&_}
 use mathlib.Core.List.{List, List·Memᴰ as In}
 use Prim.Native.Nat.{ℕ, _<_}
-use native.Mathlib.Nat.{pos-of-ne-zero}
 use lib.Dec.{eqb}
 use lib.ListN.{length, getD}
 use borrow.Author.Tests.{eqb-true, eq-eqb}
 use Rattle.sets.specs.Bits.{has, Sub}
-use Rattle.sets.proofs.Laws.{lowest}
 use Rattle.sets.proofs.Members.{common, meet-of}
 use Rattle.definitions.specs.Search.{listed, unionOf}
 use Rattle.definitions.specs.Table.{Table, bonds}
@@ -204,18 +202,12 @@ module _ {M : Table} (valid : Valid M) where
       = λ x cx t. ap (λ (y : ℕ). has y x) (sym e) ∙ chosen-at valid (closure? M) (λ y b u. u) cs l cx ∙ both-and (closure-tested valid cx) t in
       rw (← p, ← q) (ring-assembly r c d (holds k c (rw p ti)) (holds m d (rw q tj)))
 
-  -- within an assembly the rings are exactly those sums of its basis rings that are rings
+  -- a ring lies in the bonds of an assembly exactly if it is a sum of that assembly's basis rings
   pub assembly-rings : (a s : ℕ) → (Ring M s × Sub s (assemblyBonds M a)) ↔ (Ring M s × SumOf (ringsIn (basisRings M) a) s)
   assembly-rings a s = (
     λ h. (h .0, assembly-evens a s .0 (h .0 .even, h .1)),
     λ h. (h .0, assembly-evens a s .1 (h .1) .1),
   )
-
-  -- a set that is not empty is a sum of basis rings of one assembly at most
-  pub one-assembly : {a a′ s : ℕ} → s ≢ 0 → SumOf (ringsIn (basisRings M) a) s → SumOf (ringsIn (basisRings M) a′) s → a ≡ a′
-  one-assembly {a} {a′} {s} some h g =
-      let (b, u, _) = lowest s (pos-of-ne-zero some) in
-      assemblies-disjoint b (assembly-evens a s .1 h .1 b u) (assembly-evens a′ s .1 g .1 b u)
 
 -- ---- the bonds of an assembly as a class
 

@@ -1,5 +1,5 @@
--- The basis ring of a closure bond. A closure bond with a path of forest bonds between its ends is an even set, since a path meets
--- every atom evenly but its two ends; it has one closure bond alone, so it is the only even set of that bond and forest bonds, and it
+-- The basis ring of a closure bond. A closure bond and a path through the forest from one end of it to the other are an even set, since a
+-- path meets every atom evenly but its two ends; it has one closure bond alone, so it is the only even set of that bond and forest bonds, and it
 -- is a ring. Assumes nothing.
 use mathlib.Core.Path.{_≡_, refl, sym, ap, ap₂, _∙_}
 use mathlib.Core.Logic.{_≢_, _↔_, ⊎-elim}
@@ -119,7 +119,7 @@ module _ {M : Table} (valid : Valid M) where
       sym (first-of-one (2 ^ bonds M) (fundamental? M k) s (f .even .within) (fundamental-test M k s .1 f)
       (λ t e. fundamental-unique (fundamental-test M k t .0 e) f))
 
-  -- ---- the closure bond with a path of forest bonds between its ends
+  -- ---- the closure bond and a path through the forest from one end of it to the other
 
   -- such a path does not go over the closure bond
   pub way-fresh : {k a b w : ℕ} → Closure M k → Path M (has (forest M)) a b w → has w k ≡ false
@@ -147,7 +147,7 @@ module _ {M : Table} (valid : Valid M) where
       let f = way-fundamental c r in
       rw (basis-ring-is f) at f
 
-  -- "A closure bond with the one path of forest bonds between its ends."
+  -- the reading: it is the closure bond and the bonds of a path through the forest that joins its two ends
   pub basis-ring-reads : {k : ℕ} → Closure M k → (s : ℕ) → BasisRing M k s ↔ (s ≡ basisRing M k)
   basis-ring-reads {k} c s = (
     λ b. b .whole ∙ basis-ring-is (way-fundamental c (b .path)),

@@ -1,5 +1,5 @@
 -- How many rings there are: an assembly of k basis rings has 2 ^ k - 1 sums that are not empty, and every ring is one of an assembly's.
--- Where no assembly has more than 10 basis rings, each basis ring counts for at most 1023 / 10 of them. Assumes nothing.
+-- Where each assembly has at most ten basis rings, each basis ring counts for at most 1023 / 10 of them. Assumes nothing.
 use mathlib.Core.Path.{_≡_, refl, sym, ap, _∙_}
 use mathlib.Core.Logic.{_≢_}
 use mathlib.Core.Bool.{true, false}

@@ -2,7 +2,7 @@
 -- in total. The basis rings are a basis of rings too, so it has as many. Assumes nothing.
 use mathlib.Core.Path.{_≡_, sym}
 use mathlib.Core.Logic.{_↔_}
-use mathlib.Core.List.{List, map, List·Memᴰ as In}
+use mathlib.Core.List.{List, map}
 use Prim.Native.Nat.{ℕ}
 use lib.ListN.{length}
 use Rattle.sets.specs.Bits.{size}
@@ -14,8 +14,7 @@ pub use Rattle.definitions.specs.Smallest.{NoneOfOthers, RingBasis, SmallestBas
 use Rattle.definitions.specs.Label.{occurs}
 use Rattle.definitions.proofs.Refusals.{Valid}
 use Rattle.definitions.proofs.Rings.{all-rings-are, all-rings-sorted}
-use Rattle.spans.proofs.Spans.{Span}
-use Rattle.spans.proofs.Choice.{independent-iff-others, sum→span}
+use Rattle.spans.proofs.Choice.{independent-iff-others}
 use Rattle.spans.proofs.Smallest.{before-rising, BasisOf, SmallestOf, taken-basis, taken-length, taken-least-total, smallest-sizes-agree}
 use Rattle.cycles.proofs.BasisList.{basis-ring-in, even-sums, basis-rings-independent}
 
@@ -66,7 +65,3 @@ module _ {M : Table} (valid : Valid M) where
   pub smallest-basis-length : length (smallestBasis M) ≡ length (basisRings M)
   unfolding smallestBasis
   smallest-basis-length = sym (taken-length (allRings M) (basisRings M) (ring-basis-of M (basisRings M) .0 basis-rings-basis))
-
-  -- each ring of the list of all rings is a sum of basis rings
-  pub all-rings-spanned : (s : ℕ) → In s (allRings M) → Span (basisRings M) s
-  all-rings-spanned s i = sum→span (even-sums valid s .1 (all-rings-are M s .0 i .even))

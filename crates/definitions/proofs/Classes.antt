@@ -1,10 +1,8 @@
 -- Things that pairs join get one number: the classes of `classes` are those of being joined, and each is numbered by its least thing.
--- A pair is looked at with the classes of the pairs after it in the list, so every law goes by induction on the list.
--- Assumes nothing.
+-- A pair is looked at with the classes of the pairs after it in the list, so every law goes by induction on the list. Assumes nothing.
 use mathlib.Core.Path.{_≡_, refl, sym, ap, _∙_, subst}
 use mathlib.Core.Bool.{false, cond}
-use mathlib.Core.List.{List, [], _∷_, map}
-use mathlib.Core.List.{List·Memᴰ as In, List·Memᴰ·head as first, List·Memᴰ·tail as later}
+use mathlib.Core.List.{List, [], _∷_, map, List·Memᴰ as In, List·Memᴰ·head as first, List·Memᴰ·tail as later}
 use mathlib.Core.Logic.{_↔_, _⊎_, inl, inr}
 use Prim.Native.Nat.{ℕ, _≤_, _<_, min, max}
 use native.Mathlib.Nat.{min-eq-left, min-eq-right, max-eq-left, max-eq-right}

@@ -1,6 +1,7 @@
 -- The readings of the definitions: that each test says what its sentence says, and that each list is the one that its sentence describes.
 --     Tests       bounded tests and what they say
 --     Lists       what the list-makers of specs/Search.antt list, and how they go on by one
+--     Passing     a loop over the members of a set of places, by `next`
 --     Sorting     lists in an order: what a sorted list is, and that there is one only
 --     Refusals    each refusal is given exactly when its sentence holds
 --     Rings       the tests for even sets and rings; all rings, each once and in order
@@ -12,6 +13,7 @@
 --     Printed     what the program prints, by example
 pub mod Tests
 pub mod Lists
+pub mod Passing
 pub mod Sorting
 pub mod Refusals
 pub mod Rings

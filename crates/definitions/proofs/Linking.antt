@@ -2,17 +2,15 @@
 -- ring that it is linked with; an assembly's number counts the leaders before its own. Assumes nothing.
 use mathlib.Core.Path.{_≡_, refl, sym, ap, _∙_}
 use mathlib.Core.Bool.{Bool, true, not, cond}
-use mathlib.Core.List.{List, [], _∷_}
-use mathlib.Core.List.{List·Memᴰ as In}
-use mathlib.Core.Logic.{_↔_, _≢_, Iff·trans}
+use mathlib.Core.List.{List, [], _∷_, List·Memᴰ as In}
+use mathlib.Core.Logic.{_↔_, Iff·trans}
 use Prim.Native.Nat.{ℕ, zero, suc, _+_, _≤_, _<_}
 use native.Mathlib.Omega.{arith}
-use borrow.Author.Tests.{eqb-true, eqb-false, eq-eqb, ne-eqb, ltb-true, ltb-false, lt-ltb, le-ltb}
-use lib.Bits.{and-comm, and-self}
+use borrow.Author.Tests.{eqb-true, eqb-false, eq-eqb, ltb-true, ltb-false, lt-ltb, le-ltb}
+use lib.Bits.{and-comm}
 use lib.Dec.{eqb, ltb}
 use lib.ListN.{length, getD, length-map, List·getD-map}
 use lib.Seq.{ext-getD}
-use Rattle.sets.specs.Bits.{meet}
 use Rattle.definitions.specs.Search.{count, listed, gather, total}
 use Rattle.definitions.specs.Assembly.{share?, Linked, sharing, leaders, rank, assembliesOf, assemblyCount, ringsIn}
 use Rattle.definitions.specs.Assembly.Linked.{same, by as shares}
@@ -30,10 +28,6 @@ share-sym rs i j = ap (λ (x : ℕ). not (eqb x 0)) (and-comm (getD rs i 0) (get
 pub linked-trans : {rs : List ℕ} {i j k : ℕ} → Linked rs i j → Linked rs j k → Linked rs i k
 linked-trans same q = q
 linked-trans (shares l h e p) q = shares l h e (linked-trans p q)
-
-pub linked-sym : {rs : List ℕ} {i j : ℕ} → Linked rs i j → Linked rs j i
-linked-sym same = same
-linked-sym {rs} (shares {i} {j} l h e p) = linked-trans (linked-sym p) (shares h l (share-sym rs j i ∙ e) same)
 
 -- the rings linked with i are in every part that holds i and holds with each ring those that share a bond with it
 pub linked-closed : {rs : List ℕ} (p : ℕ → Bool) → ((i j : ℕ) → i < length rs → j < length rs → p i ≡ true → share? rs i j ≡ true → p j ≡ true)
@@ -58,10 +52,6 @@ sharing-found rs e m =
 sharing-has : (rs : List ℕ) (i j : ℕ) → i < length rs → j < i → share? rs i j ≡ true → In (i, j) (sharing rs)
 unfolding sharing
 sharing-has rs i j l h t = gather-in (length rs) (pairs rs) (i, j) .1 (i, l, listed-in i (share? rs i) (λ j. (i, j)) (i, j) .1 (j, h, t, refl))
-
--- so the pairs are exactly those
-pub sharing-in : (rs : List ℕ) (i j : ℕ) → In (i, j) (sharing rs) ↔ ((i < length rs) × (j < i) × (share? rs i j ≡ true))
-sharing-in rs i j = (sharing-found rs (i, j), λ (l, h, t). sharing-has rs i j l h t)
 
 -- and all pairs are of rings of the list
 sharing-within : (rs : List ℕ) → Within (length rs) (sharing rs)
@@ -239,28 +229,6 @@ length-rings-in rs a = length-listed (length rs) (λ i. eqb (number rs i) a) (λ
 -- each ring is in its own assembly
 pub ring-in-own : (rs : List ℕ) (i : ℕ) → i < length rs → In (getD rs i 0) (ringsIn rs (number rs i))
 ring-in-own rs i l = rings-in rs (number rs i) (getD rs i 0) .1 (i, l, refl, refl)
-
--- rings that share a bond are in one assembly
-pub sharing-in-one : (rs : List ℕ) (a b s t : ℕ) → In s (ringsIn rs a) → In t (ringsIn rs b) → meet s t ≡ true → a ≡ b
-sharing-in-one rs a b s t x y e =
-    let (i, l, p, q) = rings-in rs a s .0 x in
-    let (j, h, u, v) = rings-in rs b t .0 y in
-    sym p ∙ linked-test rs i j l h .1 (shares l h (rw (q, v) e) same) ∙ u
-
--- so a ring that is not empty is in one assembly only
-pub ring-in-one : (rs : List ℕ) (a b s : ℕ) → s ≢ 0 → In s (ringsIn rs a) → In s (ringsIn rs b) → a ≡ b
-ring-in-one rs a b s nz x y = sharing-in-one rs a b s s x y (rw (and-self s, ne-eqb s 0 nz))
-
--- no assembly is without rings, and no number but an assembly's has any
-pub rings-some : (rs : List ℕ) (a : ℕ) → a < assemblyCount rs → 0 < length (ringsIn rs a)
-rings-some rs a l =
-    let (i, h, t, e) = number-occurs rs a l in
-    omega (arith, length-rings-in rs a, count-lt (λ i. eqb (number rs i) a) (length rs) i h (eq-eqb (number rs i) a e))
-
-pub rings-none : (rs : List ℕ) (a : ℕ) → assemblyCount rs ≤ a → length (ringsIn rs a) ≡ 0
-rings-none rs a l =
-    length-rings-in rs a
-    ∙ count-none (λ i. eqb (number rs i) a) (length rs) (λ i h. ne-eqb (number rs i) a (λ e. omega (arith, number-below rs i h)))
 
 -- a test that says of each number what one of two others says, and never both, counts as many as the two
 count-two : (n : ℕ) (p q r : ℕ → Bool) → ((k : ℕ) → k < n → cond (r k) 1 0 ≡ cond (p k) 1 0 + cond (q k) 1 0) → count n r ≡ count n p + count n q

@@ -10,7 +10,7 @@ use native.Mathlib.Numerals.{add-one}
 use native.Mathlib.Nat.{le-refl}
 use native.Mathlib.Decide.{le-ind}
 use native.Mathlib.Omega.{arith}
-use lib.ListN.{length, getD, length-append, List·getD-append}
+use lib.ListN.{length, getD, replicate, length-append, length-replicate, getD-replicate, List·getD-append, List·getD-eq-default}
 use lib.Seq.{getD-at}
 use lib.Dec.{eqb, ltb}
 use borrow.Author.Tests.{eqb-true, eqb-false, ltb-true, ltb-false, lt-ltb, le-ltb}
@@ -135,11 +135,6 @@ module _ (p : ℕ → Bool) where
   pub count-take : (k : ℕ) {r : Bool} → r ≡ p k → r ≡ true → count (k + 1) p ≡ count k p + 1
   unfolding count
   count-take k e h = rw (add-one, ← e, h)
-
-  -- before the first turn nothing is counted
-  pub count-zero : count 0 p ≡ 0
-  unfolding count
-  count-zero = refl
 
   -- one more number adds 0 or 1
   pub count-grows : (k : ℕ) → (count k p ≤ count (suc k) p) × (count (suc k) p ≤ count k p + 1)
@@ -517,3 +512,17 @@ pub fresh-keep : {A : Type 0} (p : A → Bool) {l : List A} → NoRepeats l → 
 fresh-keep p fresh-none = rw (keep-nil p) fresh-none
 fresh-keep p (fresh-more {x} {l} n f) =
     by (p x) (λ h. rw (keep-take p x l h) (fresh-more (λ i. n (keep-in p x l .0 i .0)) (fresh-keep p f))) (λ h. rw (keep-skip p x l h) (fresh-keep p f))
+
+-- ---- a list of one value, and a list of values read through a function
+
+-- in a list of one value that value stands everywhere, and it stands for what is past the end
+pub getD-same : {A : Type 0} (n i : ℕ) (x : A) → getD (replicate n x) i x ≡ x
+getD-same n i x =
+    by (ltb i n) (λ t. getD-replicate n i x x (ltb-true i n t))
+    (λ t. List·getD-eq-default (replicate n x) x (omega (arith, length-replicate n x, ltb-false i n t)))
+
+-- what stands at a place of a list that is read through f
+pub getD-map : {A B : Type 0} (f : A → B) (l : List A) (i : ℕ) (d : A) (e : B) → f d ≡ e → getD (map f l) i e ≡ f (getD l i d)
+getD-map f [] i d e h = sym h
+getD-map f (x ∷ l) zero d e h = refl
+getD-map f (x ∷ l) (suc i) d e h = getD-map f l i d e h

@@ -1,6 +1,5 @@
 -- Paths of bonds. A bond that is already in a path is put before it by cutting the loop, so paths are put together and turned round;
--- so the atoms of a closure bond are those in one fragment, and each closure bond is gone round by forest bonds below it.
--- Assumes nothing.
+-- so the atoms of a closure bond are those in one fragment, and each closure bond is gone round by forest bonds below it. Assumes nothing.
 use mathlib.Core.Path.{_≡_, refl, sym, ap, _∙_, subst}
 use mathlib.Core.Bool.{Bool, true, false, _&&_, _||_, not, or-true, or-comm}
 use mathlib.Core.List.{List·Memᴰ as In, List·Memᴰ·head as first, List·Memᴰ·tail as later, List·Memᴰ·not-nil as not-nil}
@@ -14,13 +13,13 @@ use lib.ListN.{length, getD}
 use Rattle.sets.specs.Bits.{has, with}
 use Rattle.sets.proofs.Laws.{ext, has-with, has-zero}
 use Rattle.definitions.specs.Search.{those}
-use Rattle.definitions.specs.Table.{Table, bonds, tail, head}
-use Rattle.definitions.specs.Basis.{Joins, Path, Closure, classes, endsBelow, fragments, closure?, forest, basisRing, basisRings}
+use Rattle.definitions.specs.Table.{Table, bonds, tail, head, refusal, maxBonds}
+use Rattle.definitions.specs.Basis.{Joins, Path, Closure, endsBelow, fragments, closure?, forest, basisRing, basisRings}
 use Rattle.definitions.specs.Basis.Joins.{along, back}
 use Rattle.definitions.specs.Basis.Path.{stay, go}
 use Rattle.definitions.proofs.Tests.{by, or-one, clashes, not-passed, both-and, and-both, eqb-self}
 use Rattle.definitions.proofs.Lists.{has-setOf, count-le, length-listed}
-use Rattle.definitions.proofs.Refusals.{Valid}
+use Rattle.definitions.proofs.Refusals.{Valid, accepted}
 use Rattle.definitions.proofs.Classes.{Joined, here, forth, back as backward, Within, joined-trans, merged, label-pair, classes-bond, classes-joined}
 
 -- ---- the two atoms of a bond
@@ -194,11 +193,6 @@ joined-iff-way M k h a b = (joined-way k h, λ w. path-joined k (w .1))
 
 -- ---- fragments and closure bonds
 
--- with no bonds each atom is a fragment of its own
-pub fragments-none : (M : Table) → fragments M 0 ≡ those (M .atoms) (λ i. true)
-unfolding fragments endsBelow classes
-fragments-none M = refl
-
 -- bond k makes the fragments of its atoms one
 pub fragments-more : (M : Table) (k a : ℕ) → getD (fragments M (k + 1)) a 0 ≡ merged (getD (fragments M k) (tail M k) 0) (getD (fragments M k) (head M k) 0) (getD (fragments M k) a 0)
 unfolding fragments endsBelow
@@ -236,6 +230,10 @@ module _ {M : Table} (v : Valid M) where
 pub basis-at-most : (M : Table) → length (basisRings M) ≤ bonds M
 unfolding basisRings
 basis-at-most M = omega (arith, length-listed (bonds M) (closure? M) (basisRing M), count-le (closure? M) (bonds M))
+
+-- an accepted table has few of them
+pub few-basis-rings : (M : Table) → refusal M ≡ 0 → length (basisRings M) ≤ maxBonds
+few-basis-rings M e = omega (arith, basis-at-most M, accepted M .0 e .few-bonds)
 
 -- ---- the forest
 

@@ -13,7 +13,9 @@ use Rattle.definitions.specs.Smallest.{chosen, sum?, taking, smallestBas
 use Rattle.definitions.specs.Reduced.{exchange, along, across, same?, sweeps, weight, reduced, reducedBasis}
 use Rattle.definitions.specs.Label.{bytesOf, bytesOfAll, field, occurs, histogram, frerejacque, pairOf, assemblyPairs, labelOf}
 use Rattle.definitions.specs.Answer.{refusalOfRings}
-use Rattle.definitions.specs.Ringline.{decimalIn, decimal, hex, endLine, frameLine, labelText, recordLine, whole?, linesOf, ringline}
+use Rattle.definitions.specs.Text.{decimalIn, decimal, hex}
+use Rattle.definitions.specs.Records.{whole?}
+use Rattle.definitions.specs.Ringline.{endLine, frameLine, labelText, recordLine, linesOf, ringline}
 
 -- a triangle, and a bond that joins an atom to itself
 two-records : ringline (0x10 ∷ 0x00 ∷ 0x01 ∷ 0x03 ∷ 0x11 ∷ 0x00 ∷ 0x06 ∷ 0x00 ∷ 0x01 ∷ 0x01 ∷ 0x02 ∷ 0x02 ∷ 0x00 ∷ 0x10 ∷ 0x00 ∷ 0x01 ∷ 0x02 ∷ 0x11 ∷ 0x00 ∷ 0x02 ∷ 0x00 ∷ 0x00 ∷ []) ≡ 114 ∷ 105 ∷ 110 ∷ 103 ∷ 115 ∷ 32 ∷ 49 ∷ 10 ∷ 49 ∷ 32 ∷ 48 ∷ 32 ∷ 48 ∷ 49 ∷ 48 ∷ 48 ∷ 48 ∷ 49 ∷ 48 ∷ 49 ∷ 48 ∷ 50 ∷ 48 ∷ 48 ∷ 48 ∷ 51 ∷ 48 ∷ 51 ∷ 48 ∷ 48 ∷ 48 ∷ 49 ∷ 48 ∷ 51 ∷ 48 ∷ 48 ∷ 48 ∷ 50 ∷ 48 ∷ 51 ∷ 48 ∷ 49 ∷ 48 ∷ 52 ∷ 48 ∷ 48 ∷ 48 ∷ 50 ∷ 48 ∷ 49 ∷ 48 ∷ 51 ∷ 10 ∷ 50 ∷ 32 ∷ 53 ∷ 32 ∷ 45 ∷ 10 ∷ 101 ∷ 110 ∷ 100 ∷ 32 ∷ 50 ∷ 10 ∷ []

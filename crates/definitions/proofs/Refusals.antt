@@ -1,20 +1,21 @@
--- The refusals in words: each number is given exactly when its sentence holds and those of the numbers before it do not, and 0 exactly where
--- none holds, which the record `Valid` names. Assumes nothing.
-use mathlib.Core.Path.{_≡_, refl, sym, ap, _∙_}
+-- The refusals in words: each number is given exactly when its sentence holds and none that is tried before it, and 0 exactly where none
+-- holds, which the record `Valid` names. A number goes by the place of its test in the list, not by its size. Assumes nothing.
+use mathlib.Core.Path.{_≡_, refl, sym, _∙_}
 use mathlib.Core.Logic.{_↔_, _≢_, _⊎_, ⊎-elim}
 use mathlib.Core.Bool.{Bool, true, false, not, _&&_, _||_, cond, false≢true}
 use mathlib.Core.List.{List, [], _∷_, _++_, map}
+use mathlib.Core.List.{List·Memᴰ as In, List·Memᴰ·head as here, List·Memᴰ·tail as there, List·Memᴰ·not-nil as not-in-nil, List·Memᴰ·cases-cons as in-cons}
 use Prim.Native.Nat.{ℕ, zero, suc, _%_, _<_, _≤_}
 use native.Mathlib.Nat.{not-suc-le-zero}
 use native.Mathlib.Omega.{arith}
 use lib.ListN.{length, getD}
-use lib.Dec.{ltb, eqb}
-use borrow.Author.Tests.{eqb-true, eqb-false, not-true}
+use lib.Dec.{ltb, eqb, lit<}
+use borrow.Author.Tests.{eqb-true, eqb-false, ne-eqb, not-true}
 use Rattle.definitions.specs.Table.{Table, bonds, tail, head, maxAtoms, maxBonds, alike?, seenBefore?, tableTests, firstOf, refusal, ODD, ATOMS, BONDS, END, SELF, TWICE, TANGLED}
 use Rattle.definitions.specs.Basis.{basisRings}
 use Rattle.definitions.specs.Assembly.{assemblyCount, ringsIn, maxAssembly, tangled?}
 use Rattle.definitions.specs.Answer.{refusalOfRings}
-use Rattle.definitions.proofs.Tests.{by, and-both, Each, Some, Tells, true-of, false-of, tells-leb, tells-ltb, tells-eqb, tells-or, tells-and, tells-as, tells-not, tells-some}
+use Rattle.definitions.proofs.Tests.{by, not-passed, not-failed, and-both, Each, Some, Tells, true-of, false-of, tells-leb, tells-ltb, tells-eqb, tells-or, tells-and, tells-as, tells-not, tells-some}
 
 -- ---- the first of a list of numbered tests that passes
 
@@ -33,28 +34,36 @@ distinct? [] = true
 distinct? (x ∷ l) = not (eqb x 0) && (absent? x l && distinct? l)
 
 -- the numbers of the tests
-abbrev numbers : List (ℕ × Bool) → List ℕ
+abbrev pub numbers : List (ℕ × Bool) → List ℕ
 numbers ts = map (λ t. t .0) ts
 
 -- the test at i passes, and none before it does
-abbrev FirstAt : List (ℕ × Bool) → ℕ → Type 0
+abbrev pub FirstAt : List (ℕ × Bool) → ℕ → Type 0
 FirstAt ts i = Each i (λ j. testAt ts j .1 ≡ false) × (testAt ts i .1 ≡ true)
 
-first-at : (ts : List (ℕ × Bool)) (i : ℕ) → FirstAt ts i → firstOf ts ≡ testAt ts i .0
+pub first-at : (ts : List (ℕ × Bool)) (i : ℕ) → FirstAt ts i → firstOf ts ≡ testAt ts i .0
 unfolding firstOf
 first-at [] i h = absurd (false≢true (h .1))
 first-at (t ∷ ts) zero h = rw (h .1)
 first-at (t ∷ ts) (suc i) h = rw (h .0 0 (omega arith)) (first-at ts i (λ j l. h .0 (suc j) (omega arith), h .1))
 
--- a number that no test has is not given
+-- the number that is given is 0 or that of a test
+first-in : (ts : List (ℕ × Bool)) → firstOf ts ≢ 0 → In (firstOf ts) (numbers ts)
+unfolding firstOf
+first-in [] h = absurd (h refl)
+first-in (t ∷ ts) h = by (t .1) (λ p. rw p (here refl)) (λ p. rw p (there (first-in ts (rw p at h))))
+
+-- an absent number is no member
+absent-out : (x : ℕ) (l : List ℕ) → absent? x l ≡ true → In x l → ⊥
+unfolding absent?
+absent-out x [] a m = not-in-nil m
+absent-out x (y ∷ l) a m =
+    let h = and-both (not (eqb x y)) (absent? x l) a in
+    ⊎-elim (eqb-false x y (not-true _ (h .0))) (absent-out x l (h .1)) (in-cons m)
+
+-- so a number that no test has is not given
 first-other : (x : ℕ) (ts : List (ℕ × Bool)) → x ≢ 0 → absent? x (numbers ts) ≡ true → firstOf ts ≢ x
-unfolding firstOf absent?
-first-other x [] z a e = z (sym e)
-first-other x (t ∷ ts) z a e =
-    let h = and-both (not (eqb x (t .0))) (absent? x (numbers ts)) a in
-    by (t .1)
-    (λ p. eqb-false x (t .0) (not-true _ (h .0)) (sym (rw p at e)))
-    (λ p. first-other x ts z (h .1) (rw p at e))
+first-other x ts z a e = absent-out x (numbers ts) a (rw e at (first-in ts (λ n. z (sym e ∙ n))))
 
 absent-at : (x : ℕ) (ts : List (ℕ × Bool)) (i : ℕ) → absent? x (numbers ts) ≡ true → i < length ts → x ≢ testAt ts i .0
 unfolding absent?
@@ -88,10 +97,10 @@ first-back (t ∷ ts) i d l e = go i l e (λ k m f. first-back ts k (later .1) m
         (λ p. cons i p (ih i (omega arith) (rw p at e)))
 
 -- no test passes
-first-none : (ts : List (ℕ × Bool)) → ((j : ℕ) → testAt ts j .1 ≡ false) → firstOf ts ≡ 0
+pub first-none : (ts : List (ℕ × Bool)) → Each (length ts) (λ j. testAt ts j .1 ≡ false) → firstOf ts ≡ 0
 unfolding firstOf
 first-none [] h = refl
-first-none (t ∷ ts) h = rw (h 0) (first-none ts (λ j. h (suc j)))
+first-none (t ∷ ts) h = rw (h 0 (omega arith)) (first-none ts (λ j l. h (suc j) (omega arith)))
 
 none-back : (ts : List (ℕ × Bool)) → distinct? (numbers ts) ≡ true → firstOf ts ≡ 0 → (j : ℕ) → testAt ts j .1 ≡ false
 unfolding firstOf distinct?
@@ -116,57 +125,84 @@ tell-at none i = record { yes-says = λ e. absurd (false≢true e); no-says = λ
 tell-at (more t ts) zero = t
 tell-at (more t ts) (suc i) = tell-at ts i
 
-module _ {ts : List (ℕ × Bool)} {Ps Ns : List (Type 0)} (t : Tell ts Ps Ns) (d : distinct? (numbers ts) ≡ true) where
-  first-reads : (i : ℕ) → i < length ts → (firstOf ts ≡ testAt ts i .0) ↔ (Each i (λ j. getD Ns j (Unit {0})) × getD Ps i ⊥)
-  first-reads i l = (
-    λ e. let h = first-back ts i d l e in (λ j m. tell-at t j .no-says (h .0 j m), tell-at t i .yes-says (h .1)),
-    λ h. first-at ts i (λ j m. false-of (tell-at t j) (h .0 j m), true-of (tell-at t i) (h .1)),
+-- the first i propositions of a list, written out as nested pairs
+abbrev pub Upto : ℕ → List (Type 0) → Type 0
+Upto zero Ns = Unit {0}
+Upto (suc i) [] = Unit {0}
+Upto (suc i) (N ∷ Ns) = N × Upto i Ns
+
+each-of-upto : (i : ℕ) (Ns : List (Type 0)) → Upto i Ns → Each i (λ j. getD Ns j (Unit {0}))
+each-of-upto zero Ns u j l = absurd (not-suc-le-zero l)
+each-of-upto (suc i) [] u j l = tt
+each-of-upto (suc i) (N ∷ Ns) u zero l = u .0
+each-of-upto (suc i) (N ∷ Ns) u (suc j) l = each-of-upto i Ns (u .1) j (omega arith)
+
+upto-of-each : (i : ℕ) (Ns : List (Type 0)) → Each i (λ j. getD Ns j (Unit {0})) → Upto i Ns
+upto-of-each zero Ns h = tt
+upto-of-each (suc i) [] h = tt
+upto-of-each (suc i) (N ∷ Ns) h = (h 0 (omega arith), upto-of-each i Ns (λ j l. h (suc j) (omega arith)))
+
+module _ {ts : List (ℕ × Bool)} {Ps Ns : List (Type 0)} (t : Tell ts Ps Ns) where
+  -- the first i tests fail exactly where what they then say holds
+  fail-reads : (i : ℕ) → Each i (λ j. testAt ts j .1 ≡ false) ↔ Upto i Ns
+  fail-reads i = (
+    λ h. upto-of-each i Ns (λ j l. tell-at t j .no-says (h j l)),
+    λ u j l. false-of (tell-at t j) (each-of-upto i Ns u j l),
   )
 
-  none-reads : (firstOf ts ≡ 0) ↔ ((j : ℕ) → getD Ns j (Unit {0}))
-  none-reads = (
-    λ e j. tell-at t j .no-says (none-back ts d e j),
-    λ h. first-none ts (λ j. false-of (tell-at t j) (h j)),
-  )
+  module _ (d : distinct? (numbers ts) ≡ true) where
+    -- the number of the test at i is given exactly where it passes and those before it fail
+    first-reads : (i : ℕ) → i < length ts → (firstOf ts ≡ testAt ts i .0) ↔ (Upto i Ns × getD Ps i ⊥)
+    first-reads i l = (
+      λ e. let h = first-back ts i d l e in (fail-reads i .0 (h .0), tell-at t i .yes-says (h .1)),
+      λ h. first-at ts i (fail-reads i .1 (h .0), true-of (tell-at t i) (h .1)),
+    )
+
+    -- and 0 exactly where all fail
+    none-reads : (firstOf ts ≡ 0) ↔ Upto (length ts) Ns
+    none-reads = (
+      λ e. fail-reads (length ts) .0 (λ j l. none-back ts d e j),
+      λ u. first-none ts (fail-reads (length ts) .1 u),
+    )
 
 -- ---- what each refusal says of a table, and what holds of a table that it does not hold of
 
--- 1 ODD: "the bond bytes are odd in number"
+-- 1 ODD: half a bond, an odd number of bond bytes
 abbrev pub OddBytes : Table → Type 0
 OddBytes M = length (M .bytes) % 2 ≡ 1
 
 abbrev pub EvenBytes : Table → Type 0
 EvenBytes M = length (M .bytes) % 2 ≡ 0
 
--- 2 ATOMS: "the atom count is 0 or above 64"
+-- 2 ATOMS: no atom, or more atoms than a table may have
 abbrev pub BadCount : Table → Type 0
 BadCount M = (M .atoms ≡ 0) ⊎ (maxAtoms < M .atoms)
 
 abbrev pub GoodCount : Table → Type 0
 GoodCount M = (0 < M .atoms) × (M .atoms ≤ maxAtoms)
 
--- 3 BONDS: "there are more than 64 bonds"
+-- 3 BONDS: more bonds than a table may have
 abbrev pub ManyBonds : Table → Type 0
 ManyBonds M = maxBonds < bonds M
 
 abbrev pub FewBonds : Table → Type 0
 FewBonds M = bonds M ≤ maxBonds
 
--- 4 END: "some bond names an atom not below the count"
+-- 4 END: a bond has an end that is the atom count or higher
 abbrev pub NamesOutside : Table → Type 0
 NamesOutside M = Some (bonds M) (λ k. (M .atoms ≤ tail M k) ⊎ (M .atoms ≤ head M k))
 
 abbrev pub AllInside : Table → Type 0
 AllInside M = Each (bonds M) (λ k. (tail M k < M .atoms) × (head M k < M .atoms))
 
--- 5 SELF: "some bond joins an atom to itself"
+-- 5 SELF: the two ends of a bond are one atom
 abbrev pub JoinsSelf : Table → Type 0
 JoinsSelf M = Some (bonds M) (λ k. tail M k ≡ head M k)
 
 abbrev pub NoneSelf : Table → Type 0
 NoneSelf M = Each (bonds M) (λ k. tail M k ≢ head M k)
 
--- 6 TWICE: "some pair of atoms is bonded twice, either way round"
+-- 6 TWICE: two bonds have the same two atoms, in the same order or in the other
 abbrev pub Alike : Table → ℕ → ℕ → Type 0
 Alike M k j = ((tail M k ≡ tail M j) × (head M k ≡ head M j)) ⊎ ((tail M k ≡ head M j) × (head M k ≡ tail M j))
 
@@ -176,7 +212,7 @@ BondedTwice M = Some (bonds M) (λ k. Some k (Alike M k))
 abbrev pub NoneTwice : Table → Type 0
 NoneTwice M = Each (bonds M) (λ k. Each k (λ j. Alike M k j → ⊥))
 
--- 7 TANGLED: "an assembly has more than 10 basis rings"
+-- 7 TANGLED: more basis rings in one assembly than there may be
 abbrev pub Tangled : Table → Type 0
 Tangled M = Some (assemblyCount (basisRings M)) (λ a. maxAssembly < length (ringsIn (basisRings M) a))
 
@@ -224,71 +260,52 @@ numbered M = refl
 
 -- ---- each number exactly when
 
--- number i + 1 is given exactly where its sentence holds and no sentence before it
-pub refused-exactly : (M : Table) (i : ℕ) → i < 6 → (refusal M ≡ testAt (tableTests M) i .0) ↔ (Each i (λ j. getD (rights M) j (Unit {0})) × getD (wrongs M) i ⊥)
+-- the number of the test at i is given exactly where its sentence holds and no sentence before it
+pub refused-exactly : (M : Table) (i : ℕ) → i < length (tableTests M) → (refusal M ≡ testAt (tableTests M) i .0) ↔ (Upto i (rights M) × getD (wrongs M) i ⊥)
 unfolding refusal
 refused-exactly M i l = first-reads (tells M) (numbered M) i l
 
--- the first i propositions of a list, written out as nested pairs
-abbrev Upto : ℕ → List (Type 0) → Type 0
-Upto zero Ns = Unit {0}
-Upto (suc i) [] = Unit {0}
-Upto (suc i) (N ∷ Ns) = N × Upto i Ns
+-- the first i tests of a table fail exactly where what is right of them holds
+pub tried-exactly : (M : Table) (i : ℕ) → Each i (λ j. testAt (tableTests M) j .1 ≡ false) ↔ Upto i (rights M)
+tried-exactly M i = fail-reads (tells M) i
 
-each-of-upto : (i : ℕ) (Ns : List (Type 0)) → Upto i Ns → Each i (λ j. getD Ns j (Unit {0}))
-each-of-upto zero Ns u j l = absurd (not-suc-le-zero l)
-each-of-upto (suc i) [] u j l = tt
-each-of-upto (suc i) (N ∷ Ns) u zero l = u .0
-each-of-upto (suc i) (N ∷ Ns) u (suc j) l = each-of-upto i Ns (u .1) j (omega arith)
-
-upto-of-each : (i : ℕ) (Ns : List (Type 0)) → Each i (λ j. getD Ns j (Unit {0})) → Upto i Ns
-upto-of-each zero Ns h = tt
-upto-of-each (suc i) [] h = tt
-upto-of-each (suc i) (N ∷ Ns) h = (h 0 (omega arith), upto-of-each i Ns (λ j l. h (suc j) (omega arith)))
-
-refused-upto : (M : Table) (i : ℕ) → i < 6 → (refusal M ≡ testAt (tableTests M) i .0) ↔ (Upto i (rights M) × getD (wrongs M) i ⊥)
-refused-upto M i l = (
-  λ e. let h = refused-exactly M i l .0 e in (upto-of-each i (rights M) (h .0), h .1),
-  λ h. refused-exactly M i l .1 (each-of-upto i (rights M) (h .0), h .1),
-)
-
--- 1 exactly when the bond bytes are odd in number
+-- 1 exactly when the number of bond bytes is odd
 pub refused-odd : (M : Table) → (refusal M ≡ ODD) ↔ OddBytes M
-refused-odd M = (λ e. refused-upto M 0 (omega arith) .0 e .1, λ h. refused-upto M 0 (omega arith) .1 (tt, h))
+refused-odd M = (λ e. refused-exactly M 0 (lit< tt) .0 e .1, λ h. refused-exactly M 0 (lit< tt) .1 (tt, h))
 
 -- 2 exactly when not that, and the atom count is 0 or too high
 pub refused-atoms : (M : Table) → (refusal M ≡ ATOMS) ↔ (EvenBytes M × BadCount M)
 refused-atoms M = (
-  λ e. let r = refused-upto M 1 (omega arith) .0 e in (r .0 .0, r .1),
-  λ h. refused-upto M 1 (omega arith) .1 ((h .0, tt), h .1),
+  λ e. let r = refused-exactly M 1 (lit< tt) .0 e in (r .0 .0, r .1),
+  λ h. refused-exactly M 1 (lit< tt) .1 ((h .0, tt), h .1),
 )
 
 -- 3 exactly when none of those, and there are too many bonds
 pub refused-bonds : (M : Table) → (refusal M ≡ BONDS) ↔ (EvenBytes M × GoodCount M × ManyBonds M)
 refused-bonds M = (
-  λ e. let r = refused-upto M 2 (omega arith) .0 e in (r .0 .0, r .0 .1 .0, r .1),
-  λ h. refused-upto M 2 (omega arith) .1 ((h .0, (h .1, tt)), h .2),
+  λ e. let r = refused-exactly M 2 (lit< tt) .0 e in (r .0 .0, r .0 .1 .0, r .1),
+  λ h. refused-exactly M 2 (lit< tt) .1 ((h .0, (h .1, tt)), h .2),
 )
 
--- 4 exactly when none of those, and some bond names an atom not below the count
+-- 4 exactly when none of those, and a bond has an end that is the atom count or higher
 pub refused-end : (M : Table) → (refusal M ≡ END) ↔ (EvenBytes M × GoodCount M × FewBonds M × NamesOutside M)
 refused-end M = (
-  λ e. let r = refused-upto M 3 (omega arith) .0 e in (r .0 .0, r .0 .1 .0, r .0 .1 .1 .0, r .1),
-  λ h. refused-upto M 3 (omega arith) .1 ((h .0, (h .1, (h .2, tt))), h .3),
+  λ e. let r = refused-exactly M 3 (lit< tt) .0 e in (r .0 .0, r .0 .1 .0, r .0 .1 .1 .0, r .1),
+  λ h. refused-exactly M 3 (lit< tt) .1 ((h .0, (h .1, (h .2, tt))), h .3),
 )
 
--- 5 exactly when none of those, and some bond joins an atom to itself
+-- 5 exactly when none of those, and the two ends of a bond are one atom
 pub refused-self : (M : Table) → (refusal M ≡ SELF) ↔ (EvenBytes M × GoodCount M × FewBonds M × AllInside M × JoinsSelf M)
 refused-self M = (
-  λ e. let r = refused-upto M 4 (omega arith) .0 e in (r .0 .0, r .0 .1 .0, r .0 .1 .1 .0, r .0 .1 .1 .1 .0, r .1),
-  λ h. refused-upto M 4 (omega arith) .1 ((h .0, (h .1, (h .2, (h .3, tt)))), h .4),
+  λ e. let r = refused-exactly M 4 (lit< tt) .0 e in (r .0 .0, r .0 .1 .0, r .0 .1 .1 .0, r .0 .1 .1 .1 .0, r .1),
+  λ h. refused-exactly M 4 (lit< tt) .1 ((h .0, (h .1, (h .2, (h .3, tt)))), h .4),
 )
 
--- 6 exactly when none of those, and some pair of atoms is bonded twice
+-- 6 exactly when none of those, and two bonds have the same two atoms
 pub refused-twice : (M : Table) → (refusal M ≡ TWICE) ↔ (EvenBytes M × GoodCount M × FewBonds M × AllInside M × NoneSelf M × BondedTwice M)
 refused-twice M = (
-  λ e. let r = refused-upto M 5 (omega arith) .0 e in (r .0 .0, r .0 .1 .0, r .0 .1 .1 .0, r .0 .1 .1 .1 .0, r .0 .1 .1 .1 .1 .0, r .1),
-  λ h. refused-upto M 5 (omega arith) .1 ((h .0, (h .1, (h .2, (h .3, (h .4, tt))))), h .5),
+  λ e. let r = refused-exactly M 5 (lit< tt) .0 e in (r .0 .0, r .0 .1 .0, r .0 .1 .1 .0, r .0 .1 .1 .1 .0, r .0 .1 .1 .1 .1 .0, r .1),
+  λ h. refused-exactly M 5 (lit< tt) .1 ((h .0, (h .1, (h .2, (h .3, (h .4, tt))))), h .5),
 )
 
 -- what an accepted table has
@@ -305,19 +322,17 @@ pub record Valid (M : Table) : Type 0 where
 pub accepted : (M : Table) → (refusal M ≡ 0) ↔ Valid M
 unfolding refusal
 accepted M = (
-  λ e. let h = none-reads (tells M) (numbered M) .0 e in
-      record { even = h 0; some-atoms = h 1 .0; few-atoms = h 1 .1; few-bonds = h 2; inside = h 3; no-self = h 4; no-twice = h 5 },
-  λ v. none-reads (tells M) (numbered M) .1 (rightly v),
+  λ e. let h = none-reads (tells M) (numbered M) .0 e in record {
+    even = h .0;
+    some-atoms = h .1 .0 .0;
+    few-atoms = h .1 .0 .1;
+    few-bonds = h .1 .1 .0;
+    inside = h .1 .1 .1 .0;
+    no-self = h .1 .1 .1 .1 .0;
+    no-twice = h .1 .1 .1 .1 .1 .0;
+  },
+  λ v. none-reads (tells M) (numbered M) .1 (v .even, ((v .some-atoms, v .few-atoms), (v .few-bonds, (v .inside, (v .no-self, (v .no-twice, tt)))))),
 )
-  where
-    rightly : Valid M → (j : ℕ) → getD (rights M) j (Unit {0})
-    rightly v zero = v .even
-    rightly v (suc zero) = (v .some-atoms, v .few-atoms)
-    rightly v (suc (suc zero)) = v .few-bonds
-    rightly v (suc (suc (suc zero))) = v .inside
-    rightly v (suc (suc (suc (suc zero)))) = v .no-self
-    rightly v (suc (suc (suc (suc (suc zero))))) = v .no-twice
-    rightly v (suc (suc (suc (suc (suc (suc j)))))) = tt
 
 -- ---- with 7
 
@@ -336,71 +351,79 @@ append-first (t ∷ ts) us d e =
     (λ p. absurd (eqb-false (t .0) 0 (not-true _ (h .0)) (rw p at e)))
     (λ p. rw p (append-first ts us (and-both (absent? (t .0) (numbers ts)) (distinct? (numbers ts)) (h .1) .1) (rw p at e)))
 
+module _ (ts us : List (ℕ × Bool)) (d : distinct? (numbers ts) ≡ true) where
+  -- by cases: a test of the first list passes, or none does
+  either : {A : Type 0} → (firstOf ts ≡ 0 → firstOf (ts ++ us) ≡ firstOf us → A) → (firstOf ts ≢ 0 → firstOf (ts ++ us) ≡ firstOf ts → A) → A
+  either f g =
+      by (eqb (firstOf ts) 0)
+      (λ t. let z = eqb-true (firstOf ts) 0 t in f z (append-first ts us d z))
+      (λ t. let n = eqb-false (firstOf ts) 0 t in g n (first-append ts us n))
+
+  -- 0 is given exactly where both lists give it
+  both-none : (firstOf (ts ++ us) ≡ 0) ↔ ((firstOf ts ≡ 0) × (firstOf us ≡ 0))
+  both-none = (
+    λ e. either (λ z q. (z, sym q ∙ e)) (λ n q. absurd (n (sym q ∙ e))),
+    λ h. append-first ts us d (h .0) ∙ h .1,
+  )
+
+  -- a number that no test of the second list has, exactly where the first list gives it
+  by-first : (c : ℕ) → c ≢ 0 → absent? c (numbers us) ≡ true → (firstOf (ts ++ us) ≡ c) ↔ (firstOf ts ≡ c)
+  by-first c z a = (
+    λ e. either (λ n q. absurd (first-other c us z a (sym q ∙ e))) (λ n q. sym q ∙ e),
+    λ e. first-append ts us (λ n. z (sym e ∙ n)) ∙ e,
+  )
+
+  -- and one that no test of the first list has, exactly where that gives 0 and the second list gives it
+  by-second : (c : ℕ) → c ≢ 0 → absent? c (numbers ts) ≡ true → (firstOf (ts ++ us) ≡ c) ↔ ((firstOf ts ≡ 0) × (firstOf us ≡ c))
+  by-second c z a = (
+    λ e. either (λ n q. (n, sym q ∙ e)) (λ n q. absurd (first-other c ts z a (sym q ∙ e))),
+    λ h. append-first ts us d (h .0) ∙ h .1,
+  )
+
+module _ (n : ℕ) (some-number : n ≢ 0) (b : Bool) where
+  -- one test alone gives 0 exactly where it fails
+  alone-none : (firstOf ((n, b) ∷ []) ≡ 0) ↔ (b ≡ false)
+  unfolding firstOf
+  alone-none = (λ e. not-passed b (λ p. some-number (rw p at e)), λ p. rw p)
+
+  -- and its number exactly where it passes
+  alone-given : (firstOf ((n, b) ∷ []) ≡ n) ↔ (b ≡ true)
+  unfolding firstOf
+  alone-given = (λ e. not-failed b (λ p. some-number (sym (rw p at e))), λ p. rw p)
+
+-- the test that is tried after those of the table
+abbrev tangling : Table → List (ℕ × Bool)
+tangling M = (TANGLED, tangled? M) ∷ []
+
 -- a table that is refused is so with the same number
 pub rings-kept : (M : Table) → refusal M ≢ 0 → refusalOfRings M ≡ refusal M
 unfolding refusal refusalOfRings
-rings-kept M h = first-append (tableTests M) ((TANGLED, tangled? M) ∷ []) h
+rings-kept M h = first-append (tableTests M) (tangling M) h
 
 -- of an accepted one only the assemblies are asked
 pub rings-free : (M : Table) → refusal M ≡ 0 → refusalOfRings M ≡ cond (tangled? M) TANGLED 0
 unfolding refusal refusalOfRings firstOf
-rings-free M e = append-first (tableTests M) ((TANGLED, tangled? M) ∷ []) (numbered M) e
-
--- a number of the tests, or 0
-first-low : (m : ℕ) (ts : List (ℕ × Bool)) → ((i : ℕ) → i < length ts → testAt ts i .0 ≤ m) → firstOf ts ≤ m
-unfolding firstOf
-first-low m [] h = omega arith
-first-low m (t ∷ ts) h = by (t .1) (λ p. rw p (h 0 (omega arith))) (λ p. rw p (first-low m ts (λ i l. h (suc i) (omega arith))))
-
--- the refusals of a table end at 6
-pub refusal-le : (M : Table) → refusal M ≤ TWICE
-unfolding refusal
-refusal-le M = first-low TWICE (tableTests M) low
-  where
-    low : (i : ℕ) → i < length (tableTests M) → testAt (tableTests M) i .0 ≤ TWICE
-    low zero l = omega arith
-    low (suc zero) l = omega arith
-    low (suc (suc zero)) l = omega arith
-    low (suc (suc (suc zero))) l = omega arith
-    low (suc (suc (suc (suc zero)))) l = omega arith
-    low (suc (suc (suc (suc (suc zero))))) l = omega arith
-    low (suc (suc (suc (suc (suc (suc i)))))) l = omega arith
+rings-free M e = append-first (tableTests M) (tangling M) (numbered M) e
 
 -- refusalOfRings gives 0 exactly where the table is accepted and no assembly is too large
 pub rings-accepted : (M : Table) → (refusalOfRings M ≡ 0) ↔ ((refusal M ≡ 0) × (tangled? M ≡ false))
-rings-accepted M = (
-  λ e. let z = zero-of e in (z, by (tangled? M) (λ t. absurd (seven z t e)) (λ t. t)),
-  λ h. rings-free M (h .0) ∙ ap (λ (b : Bool). cond b TANGLED 0) (h .1),
-)
-  where
-    zero-of : refusalOfRings M ≡ 0 → refusal M ≡ 0
-    zero-of e = by (eqb (refusal M) 0) (λ t. eqb-true (refusal M) 0 t) (λ t. sym (rings-kept M (eqb-false (refusal M) 0 t)) ∙ e)
-
-    seven : refusal M ≡ 0 → tangled? M ≡ true → refusalOfRings M ≡ 0 → ⊥
-    seven z t e = let s : refusalOfRings M ≡ TANGLED = rings-free M z ∙ ap (λ (b : Bool). cond b TANGLED 0) t in omega arith
+unfolding refusal refusalOfRings
+rings-accepted M =
+    let b = both-none (tableTests M) (tangling M) (numbered M) in
+    let a = alone-none TANGLED (λ e. omega arith) (tangled? M) in
+    (λ e. (b .0 e .0, a .0 (b .0 e .1)), λ h. b .1 (h .0, a .1 (h .1)))
 
 -- it gives 7 exactly where the table is accepted and an assembly is too large
 pub rings-tangled : (M : Table) → (refusalOfRings M ≡ TANGLED) ↔ ((refusal M ≡ 0) × (tangled? M ≡ true))
-rings-tangled M = (
-  λ e. let z = zero-of e in (z, by (tangled? M) (λ t. t) (λ t. absurd (nought z t e))),
-  λ h. rings-free M (h .0) ∙ ap (λ (b : Bool). cond b TANGLED 0) (h .1),
-)
-  where
-    zero-of : refusalOfRings M ≡ TANGLED → refusal M ≡ 0
-    zero-of e = by (eqb (refusal M) 0) (λ t. eqb-true (refusal M) 0 t) (λ t. absurd (omega (arith, rings-kept M (eqb-false (refusal M) 0 t), refusal-le M)))
+unfolding refusal refusalOfRings absent?
+rings-tangled M =
+    let b = by-second (tableTests M) (tangling M) (numbered M) TANGLED (λ e. omega arith) refl in
+    let a = alone-given TANGLED (λ e. omega arith) (tangled? M) in
+    (λ e. (b .0 e .0, a .0 (b .0 e .1)), λ h. b .1 (h .0, a .1 (h .1)))
 
-    nought : refusal M ≡ 0 → tangled? M ≡ false → refusalOfRings M ≡ TANGLED → ⊥
-    nought z t e = let s : refusalOfRings M ≡ 0 = rings-free M z ∙ ap (λ (b : Bool). cond b TANGLED 0) t in omega arith
-
--- and a number from 1 to 6 exactly where the table check does
-pub rings-refused : (M : Table) (c : ℕ) → 0 < c → c ≤ TWICE → (refusalOfRings M ≡ c) ↔ (refusal M ≡ c)
-rings-refused M c p l = (
-  λ e. by (eqb (refusal M) 0) (λ t. absurd (free (eqb-true (refusal M) 0 t) e)) (λ t. sym (rings-kept M (eqb-false (refusal M) 0 t)) ∙ e),
-  λ e. rings-kept M (λ z. omega arith) ∙ e,
-)
-  where
-    free : refusal M ≡ 0 → refusalOfRings M ≡ c → ⊥
-    free z e =
-        by (tangled? M)
-        (λ t. let s : refusalOfRings M ≡ TANGLED = rings-free M z ∙ ap (λ (b : Bool). cond b TANGLED 0) t in omega arith)
-        (λ t. let s : refusalOfRings M ≡ 0 = rings-free M z ∙ ap (λ (b : Bool). cond b TANGLED 0) t in omega arith)
+-- and a number of the table's tests exactly where the table check does
+pub rings-refused : (M : Table) (c : ℕ) → In c (numbers (tableTests M)) → (refusalOfRings M ≡ c) ↔ (refusal M ≡ c)
+unfolding refusal refusalOfRings absent?
+rings-refused M c m =
+    let other : (x : ℕ) → absent? x (numbers (tableTests M)) ≡ true → c ≢ x = λ x a e. absent-out x (numbers (tableTests M)) a (rw e at m) in
+    by-first (tableTests M) (tangling M) (numbered M) c (other 0 refl) (rw (ne-eqb c TANGLED (other TANGLED refl)))

@@ -2,8 +2,7 @@
 -- theorem that turns it into an equation for each claim. Assumes nothing.
 use mathlib.Core.Path.{_≡_, refl, sym, ap, _∙_}
 use mathlib.Core.Bool.{Bool, true, _&&_, and-eq-true-iff}
-use mathlib.Core.List.{List, [], _∷_}
-use mathlib.Core.List.{List·Memᴰ as In, List·Memᴰ·head as here, List·Memᴰ·tail as there}
+use mathlib.Core.List.{List, [], _∷_, List·Memᴰ as In, List·Memᴰ·head as here, List·Memᴰ·tail as there}
 use Prim.Native.Nat.{ℕ}
 use lib.Count.{ones, onesIn}
 use Rattle.sets.specs.Bits.{has, with, without}

@@ -1,5 +1,4 @@
--- "All rings: ordered by size, then by the bond set read as a number, both rising."
--- Assumes nothing.
+-- All rings in their order: smaller ones first, and of two with one size the one that is the lower number. Assumes nothing.
 use mathlib.Core.Bool.{Bool, _&&_, _||_}
 use mathlib.Core.List.{List}
 use Prim.Native.Nat.{ℕ, _^_}
@@ -13,5 +12,6 @@ use Rattle.definitions.specs.Ring.{ring?}
 unfoldable pub before : ℕ → ℕ → Bool
 before s t = ltb (size s) (size t) || (eqb (size s) (size t) && ltb s t)
 
+-- every ring of a table, once, in this order
 unfoldable pub allRings : Table → List ℕ
 allRings M = sort before (those (2 ^ bonds M) (ring? M))

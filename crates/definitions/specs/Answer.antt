@@ -1,37 +1,44 @@
--- "All answers but the size lookup's are a number and a count. 0 is acceptance; the count is the number of items written, from the
--- start of the lent list. The rest of the list is untouched. A refusal has count 0, and nothing lent is written."
--- Assumes nothing.
-use mathlib.Core.Bool.{cond}
+-- What comes back: a number, 0 where the table is accepted and that of the refusal where not; a count of what is given; and what is handed
+-- back or left in what was lent. A refusal has count 0 and leaves what was lent as it was. Assumes nothing.
+use mathlib.Core.Bool.{Bool, true, cond}
 use mathlib.Core.List.{List, [], _∷_, _++_}
 use Prim.Native.Nat.{ℕ, zero, suc}
 use lib.ListN.{length, drop}
 use lib.Dec.{leb}
+use Rattle.sets.specs.Lists.{inWords}
 use Rattle.definitions.specs.Table.{Table, firstOf, tableTests, TANGLED, ROOM}
 use Rattle.definitions.specs.Assembly.{tangled?}
 
--- the number, the count, and the lent list as it is left
-pub record Outcome : Type 0 where
+-- an answer with what it leaves, which may be a list, several lists or a value
+pub record Outcome (A : Type 0) : Type 0 where
   pub number : ℕ
   pub count : ℕ
-  pub list : List ℕ
+  pub left : A
 
-abbrev pub outcomeOf : ℕ → ℕ → List ℕ → Outcome
-outcomeOf n k l = record { number = n; count = k; list = l }
+abbrev pub outcomeOf : {A : Type 0} → ℕ → ℕ → A → Outcome A
+outcomeOf n k l = record { number = n; count = k; left = l }
+
+-- c is the refusal, or 0; n things are given, and this is then left, if only there is room; what was lent is left in every other case
+unfoldable pub outcome : {A : Type 0} → ℕ → Bool → ℕ → A → A → Outcome A
+outcome zero room n given lent = cond room (outcomeOf 0 n given) (outcomeOf ROOM 0 lent)
+outcome (suc c) room n given lent = outcomeOf (suc c) 0 lent
 
 -- the items over the start of a list, the rest as it was
 unfoldable pub over : List ℕ → List ℕ → List ℕ
 over items l = items ++ drop (length items) l
 
--- what comes back where c is the refusal, or 0, and these items are wanted
-unfoldable pub outcome : ℕ → List ℕ → List ℕ → Outcome
-outcome zero wanted lent = cond (leb (length wanted) (length lent)) (outcomeOf 0 (length wanted) (over wanted lent)) (outcomeOf ROOM 0 lent)
-outcome (suc c) wanted lent = outcomeOf (suc c) 0 lent
+-- items are written over the start of a lent list
+unfoldable pub written : ℕ → List ℕ → List ℕ → Outcome (List ℕ)
+written c items lent = outcome c (leb (length items) (length lent)) (length items) (over items lent) lent
 
--- "The table check writes nothing and never gives 8": its count is of basis rings
-unfoldable pub checked : ℕ → ℕ → List ℕ → Outcome
-checked zero rings lent = outcomeOf 0 rings lent
-checked (suc c) rings lent = outcomeOf (suc c) 0 lent
+-- sets are written as words over the start of a lent list, and the sets are counted
+unfoldable pub writtenSets : ℕ → List ℕ → List ℕ → Outcome (List ℕ)
+writtenSets c sets lent = outcome c (leb (length (inWords sets)) (length lent)) (length sets) (over (inWords sets) lent) lent
 
--- "7 concerns all rings, smallest basis and label only": the table's refusals, then this one
+-- nothing is lent, as by the table check: so many are counted, and 8 is never given
+unfoldable pub counted : ℕ → ℕ → Outcome (List ℕ)
+counted c n = outcome c true n [] []
+
+-- the table's refusals, and after them that of an assembly with too many basis rings: for all rings, smallest basis and label
 unfoldable pub refusalOfRings : Table → ℕ
 refusalOfRings M = firstOf (tableTests M ++ ((TANGLED, tangled? M) ∷ []))

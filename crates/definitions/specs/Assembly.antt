@@ -1,6 +1,5 @@
--- "Assembly: basis rings sharing a bond are together, and so are those linked through others (000). Numbered from 0 by their
--- first basis ring." All of it over the list of basis rings.
--- Assumes nothing.
+-- Assemblies: basis rings that shared bonds hold together, straight or through a chain. The assembly of the first basis ring is 0, that of
+-- the first one outside it is 1, and so on. All of it is said of a list of basis rings. Assumes nothing.
 use mathlib.Core.Path.{_≡_}
 use mathlib.Core.Bool.{Bool, true}
 use mathlib.Core.List.{List, map}
@@ -16,7 +15,7 @@ use Rattle.definitions.specs.Basis.{classes, basisRings}
 abbrev pub share? : List ℕ → ℕ → ℕ → Bool
 share? rs i j = meet (getD rs i 0) (getD rs j 0)
 
--- "together, and so are those linked through others"
+-- basis rings i and k are one, or a chain leads from i to k in which each shares a bond with the next
 pub data Linked (rs : List ℕ) : ℕ → ℕ → Type 0 where
   same : {i : ℕ} → Linked rs i i
   by : {i j k : ℕ} → i < length rs → j < length rs → share? rs i j ≡ true → Linked rs j k → Linked rs i k
@@ -45,12 +44,14 @@ assemblyCount rs = rank (leaders rs) (length rs)
 unfoldable pub ringsIn : List ℕ → ℕ → List ℕ
 ringsIn rs a = let ns = assembliesOf rs in listed (length rs) (λ i. eqb (getD ns i 0) a) (λ i. getD rs i 0)
 
+-- the assembly of each basis ring of a table
 unfoldable pub assemblies : Table → List ℕ
 assemblies M = assembliesOf (basisRings M)
 
--- "an assembly has more than 10 basis rings"
+-- the most basis rings that an assembly may have where all rings are needed
 abbrev pub maxAssembly : ℕ
 maxAssembly = 10
 
+-- some assembly has more basis rings than that
 unfoldable pub tangled? : Table → Bool
 tangled? M = let rs = basisRings M in some? (assemblyCount rs) (λ a. ltb maxAssembly (length (ringsIn rs a)))

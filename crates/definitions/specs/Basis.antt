@@ -1,5 +1,4 @@
--- Ring closure bonds, the spanning forest and the basis rings.
--- Assumes nothing.
+-- Ring closure bonds, the spanning forest and the basis rings. Assumes nothing.
 use mathlib.Core.Path.{_≡_}
 use mathlib.Core.Bool.{Bool, true, false, _&&_, not, cond}
 use mathlib.Core.List.{List, [], _∷_, map}
@@ -21,7 +20,7 @@ pub data Path (M : Table) (p : ℕ → Bool) : ℕ → ℕ → ℕ → Type 0 wh
   stay : {a : ℕ} → Path M p a a 0
   go : {j a b c s : ℕ} → j < bonds M → p j ≡ true → has s j ≡ false → Joins M j a b → Path M p b c s → Path M p a c (with s j)
 
--- "A bond whose two atoms are already joined by a path of lower-numbered bonds."
+-- bond k closes a ring: bonds with lower numbers lead from one of its atoms to the other
 pub record Closure (M : Table) (k : ℕ) : Type 0 where
   pub bond : k < bonds M
   pub path : (s : ℕ) × Path M (λ j. ltb j k) (tail M k) (head M k) s
@@ -49,14 +48,15 @@ endsBelow M (suc k) = (tail M k, head M k) ∷ endsBelow M k
 unfoldable pub fragments : Table → ℕ → List ℕ
 fragments M k = classes (M .atoms) (endsBelow M k)
 
+-- bond k closes a ring: by the bonds below k its atoms are in one fragment
 unfoldable pub closure? : Table → ℕ → Bool
 closure? M k = let f = fragments M k in eqb (getD f (tail M k) 0) (getD f (head M k) 0)
 
--- "All others form the spanning forest."
+-- the spanning forest: the bonds that close no ring
 unfoldable pub forest : Table → ℕ
 forest M = setOf (bonds M) (λ k. not (closure? M k))
 
--- "A closure bond with the one path of forest bonds between its ends."
+-- s is the basis ring of bond k: this closure bond, and a path through the forest from one of its atoms to the other
 pub record BasisRing (M : Table) (k s : ℕ) : Type 0 where
   pub closure : Closure M k
   pub way : ℕ
@@ -67,6 +67,6 @@ pub record BasisRing (M : Table) (k s : ℕ) : Type 0 where
 unfoldable pub basisRing : Table → ℕ → ℕ
 basisRing M k = let f = with (forest M) k in getD (those (2 ^ bonds M) (λ s. has s k && (sub s f && even? M s))) 0 0
 
--- "Listed in order of closure bonds."
+-- the basis rings, in the order of their closure bonds
 unfoldable pub basisRings : Table → List ℕ
 basisRings M = listed (bonds M) (closure? M) (basisRing M)

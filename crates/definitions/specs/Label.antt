@@ -1,5 +1,5 @@
--- The label and the sidecar. "Tagged fields: one-byte tag, two-byte length, high byte first." "All numbers high byte first."
--- Assumes nothing.
+-- The label and the sidecar, made of fields: a tag in one byte, the length of the content in two, then the content. A number that takes
+-- several bytes starts with the high one. Assumes nothing.
 use mathlib.Core.Bool.{true, false}
 use mathlib.Core.List.{List, [], _∷_, _++_, map}
 use Prim.Native.Nat.{ℕ, zero, suc, _+_, _-_, _*_, _/_, _%_}
@@ -7,7 +7,7 @@ use lib.ListN.{length}
 use lib.Dec.{eqb, ltb}
 use Rattle.sets.specs.Bits.{size}
 use Rattle.definitions.specs.Search.{gather, keep, sort, unionOf}
-use Rattle.definitions.specs.Table.{Table, bonds, maxBonds}
+use Rattle.definitions.specs.Table.{Table, bonds, allSizes}
 use Rattle.definitions.specs.Basis.{basisRings}
 use Rattle.definitions.specs.Assembly.{assemblyCount, ringsIn}
 use Rattle.definitions.specs.AllRings.{allRings}
@@ -24,7 +24,7 @@ unfoldable pub bytesOfAll : ℕ → List ℕ → List ℕ
 bytesOfAll n [] = []
 bytesOfAll n (x ∷ l) = bytesOf n x ++ bytesOfAll n l
 
--- a tagged field
+-- the field with a tag and a content
 unfoldable pub field : ℕ → List ℕ → List ℕ
 field tag content = tag ∷ (bytesOf 2 (length content) ++ content)
 
@@ -32,38 +32,42 @@ field tag content = tag ∷ (bytesOf 2 (length content) ++ content)
 unfoldable pub occurs : ℕ → List ℕ → ℕ
 occurs z l = length (keep (λ x. eqb x z) l)
 
--- "for each size that some ring has, rising: one byte size", and in n bytes how many have it
+-- the sizes that occur among sets, small to large: a byte for each, and n bytes for how many sets have it
 unfoldable pub histogram : ℕ → List ℕ → List ℕ
 histogram n sets =
     let sizes = map size sets in
-    gather (maxBonds + 1) (λ z. let k = occurs z sizes in elim (eqb k 0) [ true ↦ [] | false ↦ z ∷ bytesOf n k ])
+    gather allSizes (λ z. let k = occurs z sizes in elim (eqb k 0) [ true ↦ [] | false ↦ z ∷ bytesOf n k ])
 
--- "Frerejacque number (000): bonds - atoms + 1, or 0 where that is negative."
+-- the Frerejacque number of 000: one more than the bonds, less the atoms, and never below 0
 unfoldable pub frerejacque : Table → ℕ
 frerejacque M = bonds M + 1 - M .atoms
 
--- "for each assembly: one byte basis rings, one byte bonds in their union": the two bytes as one number, which rises "by the
--- first, then the second"
+-- what the label says of an assembly: how many basis rings it has, and how many bonds these have together. As one number, with the first in
+-- the high byte, so that numbers rise as such pairs do
 unfoldable pub pairOf : List ℕ → ℕ
 pairOf rings = length rings * 256 + size (unionOf rings)
 
+-- the pairs of all assemblies, rising
 unfoldable pub assemblyPairs : Table → List ℕ
 assemblyPairs M = let rs = basisRings M in sort ltb (gather (assemblyCount rs) (λ a. pairOf (ringsIn rs a) ∷ []))
 
--- the tags of the label's fields
+-- the tag of the field with the Frerejacque number
 abbrev pub frerejacqueTag : ℕ
 frerejacqueTag = 0x01
 
+-- that of all rings by size
 abbrev pub ringsTag : ℕ
 ringsTag = 0x02
 
+-- that of the smallest basis by size
 abbrev pub smallestTag : ℕ
 smallestTag = 0x03
 
+-- that of the assemblies
 abbrev pub assembliesTag : ℕ
 assembliesTag = 0x04
 
--- "The label has four fields, always, in this order"
+-- the label: all its fields in order of their tags, empty ones too
 unfoldable pub labelOf : Table → List ℕ
 labelOf M =
     field frerejacqueTag (frerejacque M ∷ [])
@@ -71,12 +75,14 @@ labelOf M =
     ++ (field smallestTag (histogram 1 (smallestBasis M))
     ++ field assembliesTag (bytesOfAll 2 (assemblyPairs M))))
 
--- "A sidecar is one field of tag 20 (hex) with the reduced basis, eight bytes a set, high byte first."
+-- the tag of a sidecar
 abbrev pub sidecarTag : ℕ
 sidecarTag = 0x20
 
+-- the bytes that a set takes in it
 abbrev pub setBytes : ℕ
 setBytes = 8
 
+-- the sidecar: a field by itself with the reduced basis
 unfoldable pub sidecarOf : Table → List ℕ
 sidecarOf M = field sidecarTag (bytesOfAll setBytes (reducedBasis M))

@@ -1,7 +1,6 @@
--- "Reduced basis (000): per assembly, assemblies in order. Take pairs (J, I), J before I, J outermost. X is the sum of sets J and
--- I. If X is smaller than I, exchange X and I. Then if X is smaller than J, put X in J's place. Sizes decide; equal sizes change
--- nothing. Sweep until a sweep changes nothing."
--- Assumes nothing.
+-- The reduced basis of 000: the basis rings of an assembly, shortened pair by pair. The sum X of an earlier set J and a later set I
+-- changes places with I where it has fewer bonds; what is X then replaces J where it has fewer bonds than J. Sweeps go over all pairs,
+-- J in the outer loop, until one leaves the list as it was. Assumes nothing.
 use mathlib.Core.Bool.{Bool, true, false, _&&_, cond}
 use mathlib.Core.List.{List, [], _∷_, map}
 use Prim.Native.Nat.{ℕ, zero, suc, _+_}
@@ -54,8 +53,10 @@ sweeps (suc n) l = let l′ = sweep l in elim (same? l′ l) [ true ↦ l | fals
 unfoldable pub weight : List ℕ → ℕ
 weight l = total (map size l)
 
+-- a list of sets, swept until nothing changes
 unfoldable pub reduced : List ℕ → List ℕ
 reduced l = sweeps (weight l) l
 
+-- the reduced sets of a table, assembly after assembly
 unfoldable pub reducedBasis : Table → List ℕ
 reducedBasis M = let rs = basisRings M in gather (assemblyCount rs) (λ a. reduced (ringsIn rs a))

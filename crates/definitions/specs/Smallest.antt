@@ -1,6 +1,5 @@
--- "Smallest basis: go through the list of all rings; take each that is not a sum of rings already taken. Listed as taken."
--- "Sum of sets: exclusive or (000)."
--- Assumes nothing.
+-- The smallest basis: of the rings in their order each is taken unless it is a sum of rings taken before. The sum of two sets has what is
+-- in one of them and not in both. Assumes nothing.
 use mathlib.Core.Path.{_≡_}
 use mathlib.Core.Bool.{Bool, true, false, _||_}
 use mathlib.Core.List.{List, [], _∷_, _++_, map, List·Memᴰ as In}
@@ -35,22 +34,23 @@ unfoldable pub taking : List ℕ → List ℕ → List ℕ
 taking taken [] = []
 taking taken (r ∷ rs) = elim (sum? taken r) [ true ↦ taking taken rs | false ↦ r ∷ taking (r ∷ taken) rs ]
 
+-- what is taken of all rings, in the order of taking
 unfoldable pub smallestBasis : Table → List ℕ
 smallestBasis M = taking [] (allRings M)
 
 -- ---- what is promised of a smallest basis
 
--- "none a sum of others"
+-- no set of the list is a sum of the rest of the list
 abbrev pub NoneOfOthers : List ℕ → Type 0
 NoneOfOthers vs = (before : List ℕ) (x : ℕ) (after : List ℕ) → before ++ x ∷ after ≡ vs → ¬ SumOf (before ++ after) x
 
--- "rings, none a sum of others, from which every ring can be summed"
+-- the list has rings only, no one of them is a sum of the rest, and each ring of the table is a sum of members of the list
 pub record RingBasis (M : Table) (bs : List ℕ) : Type 0 where
   pub rings : (s : ℕ) → In s bs → Ring M s
   pub none-of-others : NoneOfOthers bs
   pub span-all : (s : ℕ) → Ring M s → SumOf bs s
 
--- "and no such set has fewer bonds in total"
+-- and no list of which all this holds has a lower total of bonds
 pub record SmallestBasis (M : Table) (bs : List ℕ) : Type 0 where
   pub basis : RingBasis M bs
   pub least : (cs : List ℕ) → RingBasis M cs → total (map size bs) ≤ total (map size cs)

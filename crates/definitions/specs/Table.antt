@@ -1,6 +1,5 @@
--- "An atom count, which may be any number its type can hold, and a byte string with two bytes a bond: the numbers of its two
--- atoms, from 0. Bonds are numbered from 0 in the order given."
--- Assumes nothing.
+-- A table: how many atoms there are, any number, and two bytes for each bond, the numbers of its atoms. Atoms and bonds count from 0; the
+-- first two bytes are bond 0. Assumes nothing.
 use mathlib.Core.Bool.{Bool, _||_, _&&_, cond}
 use mathlib.Core.List.{List, [], _∷_}
 use Prim.Native.Nat.{ℕ, _+_, _*_, _/_, _%_}
@@ -26,12 +25,16 @@ tail M k = getD (M .bytes) (2 * k) 0
 abbrev pub head : Table → ℕ → ℕ
 head M k = getD (M .bytes) (2 * k + 1) 0
 
--- "At most 64 atoms and 64 bonds."
+-- the most atoms and the most bonds that are accepted
 abbrev pub maxAtoms : ℕ
 maxAtoms = 64
 
 abbrev pub maxBonds : ℕ
 maxBonds = 64
+
+-- the sizes that a set of bonds can have are those below this
+abbrev pub allSizes : ℕ
+allSizes = maxBonds + 1
 
 -- bond k meets atom a
 abbrev pub meets? : Table → ℕ → ℕ → Bool
@@ -41,29 +44,29 @@ meets? M a k = eqb (tail M k) a || eqb (head M k) a
 abbrev pub alike? : Table → ℕ → ℕ → Bool
 alike? M k j = (eqb (tail M k) (tail M j) && eqb (head M k) (head M j)) || (eqb (tail M k) (head M j) && eqb (head M k) (tail M j))
 
--- ---- the refusals of a table, "given exactly when"
+-- ---- the refusals of a table: what each test looks for
 
--- "the bond bytes are odd in number"
+-- the last byte is half a bond
 abbrev pub odd? : Table → Bool
 odd? M = eqb (length (M .bytes) % 2) 1
 
--- "the atom count is 0 or above 64"
+-- there is no atom, or there are too many
 abbrev pub badAtoms? : Table → Bool
 badAtoms? M = eqb (M .atoms) 0 || ltb maxAtoms (M .atoms)
 
--- "there are more than 64 bonds"
+-- there are too many bonds
 abbrev pub badBonds? : Table → Bool
 badBonds? M = ltb maxBonds (bonds M)
 
--- "some bond names an atom not below the count"
+-- an end of bond k is no atom of the table
 abbrev pub badEnd? : Table → ℕ → Bool
 badEnd? M k = leb (M .atoms) (tail M k) || leb (M .atoms) (head M k)
 
--- "some bond joins an atom to itself"
+-- the two ends of bond k are one atom
 abbrev pub selfBond? : Table → ℕ → Bool
 selfBond? M k = eqb (tail M k) (head M k)
 
--- "some pair of atoms is bonded twice, either way round"
+-- a bond before bond k has its two atoms
 unfoldable pub seenBefore? : Table → ℕ → Bool
 seenBefore? M k = some? k (alike? M k)
 
@@ -92,7 +95,7 @@ TANGLED = 7
 abbrev pub ROOM : ℕ
 ROOM = 8
 
--- "They are tried in this order, each over the whole table before the next": each number with its test
+-- each number with its test, the one that is tried first in front; a test of bonds looks at all of them
 abbrev pub tableTests : Table → List (ℕ × Bool)
 tableTests M =
     (ODD, odd? M)

@@ -1,7 +1,7 @@
 // The library's face: every entry in one place, for Rattle programs and, exported, for C and Rust. Each takes any table, an atom count and
 // two bytes a bond, and has the contract of the entry that it calls: number, count and every element of the lent list, for every input.
 // include/foliocrane.h declares them for C. What they promise together stands in specs/Demands.antt.
-use table::Answer;
+use answers::Answer;
 ghost use mathlib.Core.Path.{_≡_};
 ghost use mathlib.Core.List.{[]};
 ghost use lib.ListN.{length};
@@ -13,20 +13,20 @@ ghost use Rattle.definitions.specs.AllRings.{allRings};
 ghost use Rattle.definitions.specs.Smallest.{smallestBasis};
 ghost use Rattle.definitions.specs.Reduced.{reducedBasis};
 ghost use Rattle.definitions.specs.Label.{labelOf, sidecarOf};
-ghost use Rattle.definitions.specs.Answer.{outcomeOf, outcome, checked, refusalOfRings};
+ghost use Rattle.definitions.specs.Answer.{outcomeOf, counted, written, writtenSets, refusalOfRings};
 
 // The table check: 0 and the number of basis rings, or a refusal.
 #[no_mangle]
 pub extern "C" fn foliocrane_check(atoms: u64, bonds: &[u8]) -> Answer
-    ensures { λ r. ⌜ outcomeOf (r .number) (r .count) [] ≡ checked (refusal (tableOf atoms (now (bonds .entry)))) (length (basisRings (tableOf atoms (now (bonds .entry))))) [] ⌝ }
+    ensures { λ r. ⌜ outcomeOf (r .number) (r .count) [] ≡ counted (refusal (tableOf atoms (now (bonds .entry)))) (length (basisRings (tableOf atoms (now (bonds .entry))))) ⌝ }
 {
-    table::check(atoms, bonds)
+    basis::check(atoms, bonds)
 }
 
 // The basis rings, in order of their closure bonds, as words.
 #[no_mangle]
 pub extern "C" fn foliocrane_basis_rings(atoms: u64, bonds: &[u8], out: &mut [u64]) -> Answer
-    ensures { λ r. ⌜ outcomeOf (r .number) (r .count) (now (out .exit)) ≡ outcome (refusal (tableOf atoms (now (bonds .entry)))) (basisRings (tableOf atoms (now (bonds .entry)))) (now (out .entry)) ⌝ }
+    ensures { λ r. ⌜ outcomeOf (r .number) (r .count) (now (out .exit)) ≡ writtenSets (refusal (tableOf atoms (now (bonds .entry)))) (basisRings (tableOf atoms (now (bonds .entry)))) (now (out .entry)) ⌝ }
 {
     basis::basis_rings(atoms, bonds, out)
 }
@@ -34,31 +34,31 @@ pub extern "C" fn foliocrane_basis_rings(atoms: u64, bonds: &[u8], out: &mut [u6
 // The assembly of each basis ring, one byte a ring.
 #[no_mangle]
 pub extern "C" fn foliocrane_assemblies(atoms: u64, bonds: &[u8], out: &mut [u8]) -> Answer
-    ensures { λ r. ⌜ outcomeOf (r .number) (r .count) (now (out .exit)) ≡ outcome (refusal (tableOf atoms (now (bonds .entry)))) (assemblies (tableOf atoms (now (bonds .entry)))) (now (out .entry)) ⌝ }
+    ensures { λ r. ⌜ outcomeOf (r .number) (r .count) (now (out .exit)) ≡ written (refusal (tableOf atoms (now (bonds .entry)))) (assemblies (tableOf atoms (now (bonds .entry)))) (now (out .entry)) ⌝ }
 {
     basis::assemblies(atoms, bonds, out)
 }
 
-// All rings, by size, then by the bond set read as a number, as words.
+// All rings, as words: the smaller ring first, and of two with one size the lower word.
 #[no_mangle]
 pub extern "C" fn foliocrane_all_rings(atoms: u64, bonds: &[u8], out: &mut [u64]) -> Answer
-    ensures { λ r. ⌜ outcomeOf (r .number) (r .count) (now (out .exit)) ≡ outcome (refusalOfRings (tableOf atoms (now (bonds .entry)))) (allRings (tableOf atoms (now (bonds .entry)))) (now (out .entry)) ⌝ }
+    ensures { λ r. ⌜ outcomeOf (r .number) (r .count) (now (out .exit)) ≡ writtenSets (refusalOfRings (tableOf atoms (now (bonds .entry)))) (allRings (tableOf atoms (now (bonds .entry)))) (now (out .entry)) ⌝ }
 {
-    rings::all_rings(atoms, bonds, out)
+    lists::all_rings(atoms, bonds, out)
 }
 
 // The smallest basis, as taken from the list of all rings, as words.
 #[no_mangle]
 pub extern "C" fn foliocrane_smallest_basis(atoms: u64, bonds: &[u8], out: &mut [u64]) -> Answer
-    ensures { λ r. ⌜ outcomeOf (r .number) (r .count) (now (out .exit)) ≡ outcome (refusalOfRings (tableOf atoms (now (bonds .entry)))) (smallestBasis (tableOf atoms (now (bonds .entry)))) (now (out .entry)) ⌝ }
+    ensures { λ r. ⌜ outcomeOf (r .number) (r .count) (now (out .exit)) ≡ writtenSets (refusalOfRings (tableOf atoms (now (bonds .entry)))) (smallestBasis (tableOf atoms (now (bonds .entry)))) (now (out .entry)) ⌝ }
 {
-    rings::smallest_basis(atoms, bonds, out)
+    lists::smallest_basis(atoms, bonds, out)
 }
 
 // The reduced basis of 000, as words. It depends on the numbering, and never enters a label.
 #[no_mangle]
 pub extern "C" fn foliocrane_reduced_basis(atoms: u64, bonds: &[u8], out: &mut [u64]) -> Answer
-    ensures { λ r. ⌜ outcomeOf (r .number) (r .count) (now (out .exit)) ≡ outcome (refusal (tableOf atoms (now (bonds .entry)))) (reducedBasis (tableOf atoms (now (bonds .entry)))) (now (out .entry)) ⌝ }
+    ensures { λ r. ⌜ outcomeOf (r .number) (r .count) (now (out .exit)) ≡ writtenSets (refusal (tableOf atoms (now (bonds .entry)))) (reducedBasis (tableOf atoms (now (bonds .entry)))) (now (out .entry)) ⌝ }
 {
     reduced::reduced_basis(atoms, bonds, out)
 }
@@ -66,7 +66,7 @@ pub extern "C" fn foliocrane_reduced_basis(atoms: u64, bonds: &[u8], out: &mut [
 // The label.
 #[no_mangle]
 pub extern "C" fn foliocrane_label(atoms: u64, bonds: &[u8], out: &mut [u8]) -> Answer
-    ensures { λ r. ⌜ outcomeOf (r .number) (r .count) (now (out .exit)) ≡ outcome (refusalOfRings (tableOf atoms (now (bonds .entry)))) (labelOf (tableOf atoms (now (bonds .entry)))) (now (out .entry)) ⌝ }
+    ensures { λ r. ⌜ outcomeOf (r .number) (r .count) (now (out .exit)) ≡ written (refusalOfRings (tableOf atoms (now (bonds .entry)))) (labelOf (tableOf atoms (now (bonds .entry)))) (now (out .entry)) ⌝ }
 {
     label::label(atoms, bonds, out)
 }
@@ -74,9 +74,9 @@ pub extern "C" fn foliocrane_label(atoms: u64, bonds: &[u8], out: &mut [u8]) -> 
 // The sidecar: the reduced basis in a field of its own.
 #[no_mangle]
 pub extern "C" fn foliocrane_sidecar(atoms: u64, bonds: &[u8], out: &mut [u8]) -> Answer
-    ensures { λ r. ⌜ outcomeOf (r .number) (r .count) (now (out .exit)) ≡ outcome (refusal (tableOf atoms (now (bonds .entry)))) (sidecarOf (tableOf atoms (now (bonds .entry)))) (now (out .entry)) ⌝ }
+    ensures { λ r. ⌜ outcomeOf (r .number) (r .count) (now (out .exit)) ≡ written (refusal (tableOf atoms (now (bonds .entry)))) (sidecarOf (tableOf atoms (now (bonds .entry)))) (now (out .entry)) ⌝ }
 {
-    label::sidecar(atoms, bonds, out)
+    sidecar::sidecar(atoms, bonds, out)
 }
 
 // The part of the first list, or else of the second, whose sets have a size. It hands back a part of a lent list, so it is for Rattle alone.

@@ -1,98 +1,68 @@
--- The label's text, made of what the steps below work out, is the table's label.
--- Assumes nothing.
-use mathlib.Core.Path.{_≡_, sym, ap, ap₂, _∙_}
+-- What is counted of a table makes its label. Assumes nothing.
+use mathlib.Core.Path.{_≡_, refl, ap}
 use mathlib.Core.List.{List, [], _∷_}
-use Prim.Native.Nat.{ℕ, _+_, _*_, _<_, _≤_}
+use Prim.Native.Nat.{ℕ, _<_, _≤_}
 use native.Mathlib.Nat.{mod-eq-of-lt}
 use native.Mathlib.Omega.{arith}
-use lib.ListN.{take}
-use lib.Dec.{ltb}
-use Rattle.sets.specs.Bits.{size}
-use Rattle.definitions.specs.Search.{gather, unionOf, sort}
-use Rattle.definitions.specs.Table.{Table}
-use Rattle.definitions.specs.Assembly.{assemblyCount, ringsIn}
-use Rattle.definitions.specs.AllRings.{before}
-use Rattle.definitions.specs.Smallest.{taking, smallestBasis}
-use Rattle.definitions.specs.Label.{bytesOf, bytesOfAll, frerejacque, pairOf, assemblyPairs, labelOf}
-use Rattle.definitions.specs.Answer.{Outcome, outcomeOf, outcome, refusalOfRings}
-use Rattle.definitions.proofs.Lists.{gather-ext}
-use Rattle.definitions.proofs.Sorting.{occurs-made}
-use Rattle.definitions.proofs.Refusals.{Valid}
-use Rattle.table.proofs.Answers.{is-refused}
-use Rattle.basis.specs.Held.{ringsOf, BasisOf, membersOf}
-use Rattle.basis.specs.declared.basis.Basis.{Basis}
-use Rattle.basis.specs.declared.assembly.Assemblies.{Assemblies}
-use Rattle.basis.proofs.Holding.{members-size, picked-rings}
-use Rattle.rings.specs.Gibbs.{foundIn}
-use Rattle.rings.specs.Sizes.{SizesOf}
-use Rattle.rings.specs.Perceiving.{Combinable, Perceives}
-use Rattle.rings.specs.declared.perception.Perceived.{Perceived}
-use Rattle.rings.proofs.Perceiving.{perceived, perceived-valid, perceived-found, perceived-combinable, perceived-outcome}
-use Rattle.label.specs.Pairs.{pairNamed, pairsNamed}
-use Rattle.label.specs.Text.{labelText, labelWith}
-use Rattle.label.proofs.Counting.{lines-histogram}
+use lib.ListN.{take, replicate}
+use Rattle.definitions.specs.Table.{Table, allSizes}
+use Rattle.definitions.specs.AllRings.{allRings}
+use Rattle.definitions.specs.Smallest.{smallestBasis}
+use Rattle.definitions.specs.Label.{bytesOf, bytesOfAll, frerejacque, labelOf}
+use Rattle.definitions.specs.Answer.{Outcome, outcomeOf, written, refusalOfRings}
+use Rattle.definitions.proofs.Lists.{getD-same}
+use Rattle.definitions.proofs.Refusals.{Valid, accepted, rings-accepted}
+use Rattle.answers.proofs.Answers.{is-refused, is-accepted}
+use Rattle.ordering.specs.Sizes.{SizesOf}
+use Rattle.rings.specs.Counts.{Blank, Counted, CountsOf}
+use Rattle.rings.specs.declared.Counts.{Counts}
+use Rattle.labels.specs.Sizes.{NoneFrom}
+use Rattle.labels.specs.Text.{labelBytes}
+use Rattle.labels.proofs.Counting.{lines-histogram}
 
 -- a number below 256 is its one byte
 one-byte : (x : ℕ) → x < 256 → bytesOfAll 1 (x ∷ []) ≡ x ∷ []
 unfolding bytesOfAll bytesOf
 one-byte x h = ap (λ (y : ℕ). y ∷ []) (mod-eq-of-lt h)
 
--- the Frerejacque number of an accepted table is at most 64
+-- the Frerejacque number of an accepted table is less than that
 frerejacque-low : {M : Table} → Valid M → frerejacque M < 256
 unfolding frerejacque
 frerejacque-low v = omega (arith, v .some-atoms, v .few-bonds)
 
--- ---- the pairs of the assemblies
+-- lists that are cleared are blank
+pub cleared : Blank (replicate allSizes 0)
+cleared = record { long = refl; none = λ z. getD-same allSizes z 0 }
 
--- they are those of the table
-assembly-pairs : (M : Table) {b : Basis} {s : Assemblies} → BasisOf M b → Combinable b s → pairsNamed (b .rings) (s .members) (s .count) ≡ assemblyPairs M
-unfolding pairsNamed assemblyPairs pairOf
-assembly-pairs M {b} {s} basis c =
-    ap (sort ltb)
-    (gather-ext (s .count) (λ a. pairNamed (b .rings) (membersOf s a) ∷ []) (λ a. pairOf (ringsIn (ringsOf b) a) ∷ [])
-    (λ a h. ap₂ (λ (k : ℕ) (l : List ℕ). (k * 256 + size (unionOf l)) ∷ []) (members-size (c .assemblies) a h) (picked-rings b (c .few) (c .counted) (c .assemblies) a h))
-    ∙ ap (λ (n : ℕ). gather n (λ a. pairOf (ringsIn (ringsOf b) a) ∷ [])) (c .assemblies .count)
-    ∙ ap (λ (rs : List ℕ). gather (assemblyCount rs) (λ a. pairOf (ringsIn rs a) ∷ [])) (basis .rings))
+-- no size from the bound on is counted
+pub sizes-none : {sets counts : List ℕ} {top : ℕ} → SizesOf sets counts top → NoneFrom top counts
+sizes-none s = record { within = s .within; none = s .none }
 
--- ---- the label
-
--- the counts of a list of rings are those of the list in order
-sizes-sorted : {l counts : List ℕ} {top : ℕ} → SizesOf l counts top → SizesOf (sort before l) counts top
-sizes-sorted {l} t = record { long = t .long; told = λ z h. t .told z h ∙ sym (occurs-made before size z l); within = t .within; none = t .none }
-
--- what is counted of rings and of those taken is written as their text
-pub label-counted : (l pairs : List ℕ) {named : List ℕ} (number n : ℕ) {top : ℕ} {all smallest : List ℕ} (out : List ℕ) {o : Outcome}
-    → SizesOf l all top → SizesOf (taking [] (sort before l)) smallest top → take n pairs ≡ named
-    → o ≡ outcome 0 (labelText number all smallest (take n pairs)) out → o ≡ outcome 0 (labelWith number (sort before l) named) out
-unfolding labelText labelWith
-label-counted l pairs {named} number n {all = all} {smallest} out told few q w = w ∙ ap (λ (m : List ℕ). outcome 0 m out) text
-  where
-    text : labelText number all smallest (take n pairs) ≡ labelWith number (sort before l) named
-    text = rw (lines-histogram (sizes-sorted told) 2, lines-histogram few 1, q)
-
-module _ {M : Table} {p : Perceived} (seen : Perceives M p) where
+module _ {M : Table} {c : Counts} {all smallest pairs : List ℕ} (t : CountsOf M c all smallest pairs) where
   -- a refusal is handed on
-  pub label-refused : (out : List ℕ) → 0 < p .number → outcomeOf (p .number) 0 out ≡ outcome (refusalOfRings M) (labelOf M) out
-  label-refused out h = is-refused (labelOf M) out (seen .number) h
+  pub label-refused : (out : List ℕ) → 0 < c .number → outcomeOf (c .number) 0 out ≡ written (refusalOfRings M) (labelOf M) out
+  label-refused out h = is-refused (labelOf M) out (t .number) h
 
-  module _ (none : p .number ≤ 0) where
-    -- what is found in the assemblies
-    abbrev found : List ℕ
-    found = foundIn (p .basis .rings) (p .assemblies .members) (p .assemblies .count)
+  module _ (none : c .number ≤ 0) where
+    zero-given : refusalOfRings M ≡ 0
+    zero-given = omega (arith, t .number)
 
-    -- the text of what is worked out of an accepted table is its label
-    label-text : {number : ℕ} → number ≡ frerejacque M
-        → labelWith number (sort before found) (pairsNamed (p .basis .rings) (p .assemblies .members) (p .assemblies .count)) ≡ labelOf M
-    unfolding labelWith labelOf smallestBasis
+    -- what is counted of an accepted table
+    pub counted : Counted M c all smallest pairs
+    counted = t .accepted zero-given
+
+    -- its text is the label
+    label-text : {number : ℕ} → number ≡ frerejacque M → labelBytes number all smallest (take (c .pairs) pairs) ≡ labelOf M
+    unfolding labelBytes labelOf
     label-text e = rw (
-      perceived-found seen none,
+      lines-histogram 2 (allRings M) all (counted .rings .told),
+      lines-histogram 1 (smallestBasis M) smallest (counted .chosen .told),
+      counted .rising,
       e,
-      one-byte (frerejacque M) (frerejacque-low (perceived-valid seen none)),
-      assembly-pairs M (perceived seen none .basis) (perceived-combinable seen none),
+      one-byte (frerejacque M) (frerejacque-low (accepted M .0 (rings-accepted M .0 zero-given .0))),
     )
 
     -- so what is written is the label
-    pub label-written : {number : ℕ} (out : List ℕ) {o : Outcome} → number ≡ frerejacque M
-        → o ≡ outcome 0 (labelWith number (sort before found) (pairsNamed (p .basis .rings) (p .assemblies .members) (p .assemblies .count))) out
-        → o ≡ outcome (refusalOfRings M) (labelOf M) out
-    label-written out e w = perceived-outcome seen none out (label-text e) w
+    pub label-written : (out : List ℕ) {number : ℕ} {o : Outcome (List ℕ)} → number ≡ frerejacque M
+        → o ≡ written 0 (labelBytes number all smallest (take (c .pairs) pairs)) out → o ≡ written (refusalOfRings M) (labelOf M) out
+    label-written out e w = is-accepted (labelOf M) out (t .number) none (label-text e) w

@@ -1,5 +1,4 @@
--- "The size lookup takes two lists of words and a size." Which part of which list it hands back.
--- Assumes nothing.
+-- The size lookup: which part of which of two lists of sets it hands back. Assumes nothing.
 use mathlib.Core.Bool.{Bool, cond}
 use mathlib.Core.List.{List, [], _∷_}
 use Prim.Native.Nat.{ℕ, suc, _+_, _*_}
@@ -7,20 +6,21 @@ use denote.Ref.{RefT}
 use lib.Dec.{eqb, ltb}
 use lib.ListN.{length, take, drop}
 use Rattle.sets.specs.Bits.{size}
+use Rattle.sets.specs.Lists.{setsIn, wordsOf}
 
--- where the first word with n bonds stands, by the number of words before it; at the end where no word has n bonds
+-- where the first set with n bonds stands, by the number of sets before it; at the end where no set has n bonds
 unfoldable pub start : ℕ → List ℕ → ℕ
 start n [] = 0
-start n (w ∷ ws) = cond (eqb (size w) n) 0 (suc (start n ws))
+start n (s ∷ l) = cond (eqb (size s) n) 0 (suc (start n l))
 
--- some word of the list has n bonds
+-- some set of the list has n bonds
 abbrev pub some? : ℕ → List ℕ → Bool
-some? n ws = ltb (start n ws) (length ws)
+some? n l = ltb (start n l) (length l)
 
--- for how many words from the front on the size is n
+-- for how many sets from the front on the size is n
 unfoldable pub run : ℕ → List ℕ → ℕ
 run n [] = 0
-run n (w ∷ ws) = cond (eqb (size w) n) (suc (run n ws)) 0
+run n (s ∷ l) = cond (eqb (size s) n) (suc (run n l)) 0
 
 -- a lent list: where it lies, as a block of memory and an offset in bytes, and its words
 pub record Lent : Type 0 where
@@ -31,16 +31,19 @@ pub record Lent : Type 0 where
 abbrev pub lent : RefT (List ℕ) → Lent
 lent r = record { place = r .ptr; words = r .now }
 
--- the part of a lent list that begins `from` words of 8 bytes behind the list's start and is `count` words long
+-- the sets of a lent list
+abbrev pub sets : Lent → List ℕ
+sets l = setsIn (l .words)
+
+-- the part of a lent list that begins `from` sets behind its start and is `count` sets long; a word has 8 bytes
 abbrev pub part : Lent → ℕ → ℕ → Lent
-part l from count = record { place = (l .place .0, from * 8 + l .place .1); words = take count (drop from (l .words)) }
+part l from count = record { place = (l .place .0, wordsOf from * 8 + l .place .1); words = take (wordsOf count) (drop (wordsOf from) (l .words)) }
 
--- "It finds the first word in the first list with that many bonds and hands back the part of that list from there as far as the
--- size stays the same."
+-- the first sets in a row of one list that have n bonds, up to the next set with another number
 abbrev pub found : ℕ → Lent → Lent
-found n l = part l (start n (l .words)) (run n (drop (start n (l .words)) (l .words)))
+found n l = part l (start n (sets l)) (run n (drop (start n (sets l)) (sets l)))
 
--- "If the first list has none, the second is searched likewise and a part of it handed back. If neither has one, the empty part
--- at the start of the first."
+-- what is found in the first list; where no set of it has n bonds, what is found in the second; where none of that has n either, no sets, at
+-- the place where the first list begins
 unfoldable pub ofSize : ℕ → Lent → Lent → Lent
-ofSize n first second = cond (some? n (first .words)) (found n first) (cond (some? n (second .words)) (found n second) (part first 0 0))
+ofSize n first second = cond (some? n (sets first)) (found n first) (cond (some? n (sets second)) (found n second) (part first 0 0))

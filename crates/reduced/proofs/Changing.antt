@@ -10,6 +10,8 @@ use lib.Bits.{bitXor}
 use lib.Dec.{ltb}
 use lib.ListN.{length, getD, set}
 use Rattle.sets.specs.Bits.{size}
+use Rattle.sets.specs.Lists.{setsIn, Put}
+use Rattle.sets.proofs.Lists.{sets-long}
 use Rattle.definitions.specs.Reduced.{exchange, weight}
 use Rattle.definitions.proofs.Lists.{lists-same}
 use Rattle.definitions.proofs.Tests.{by}
@@ -21,7 +23,7 @@ pub changed-none : (l m : List ℕ) → m ≡ l → changed? l m ≡ false
 changed-none l m e = ap not (lists-same m l e)
 
 -- a list of a lower total has
-pub changed-lower : (l m : List ℕ) → weight m < weight l → changed? l m ≡ true
+changed-lower : (l m : List ℕ) → weight m < weight l → changed? l m ≡ true
 changed-lower l m h = ap not (lower-differs l m h)
 
 -- a list is changed by two steps where one of them changes it
@@ -32,18 +34,24 @@ changed-both l m n (inr h) (inl f) = simp (changed-lower l m h, changed-none m n
 changed-both l m n (inr h) (inr k) = simp (changed-lower l m h, changed-lower m n k, changed-lower l n (omega arith))
 
 -- an exchange changes the list where one of its tests passes
-pub exchange-changed : (l : List ℕ) (J I : ℕ) → J < I → I < length l → exchanges? l J I ≡ changed? l (exchange l J I)
+exchange-changed : (l : List ℕ) (J I : ℕ) → J < I → I < length l → exchanges? l J I ≡ changed? l (exchange l J I)
 exchange-changed l J I h k =
     by (exchanges? l J I)
     (λ e. e ∙ sym (changed-lower l (exchange l J I) (exchange-lowers l J I h k e)))
     (λ e. e ∙ sym (changed-none l (exchange l J I) (exchange-stays l J I e)))
 
--- an exchange set by set: f and s are sets J and I, x their sum, p and q the two tests, y what is left over; a comes to I and b to J
-pub exchange-done : (l : List ℕ) (J I : ℕ) → (J < I) × (I < length l)
-    → {f s x a y b : ℕ} {p q : Bool} → f ≡ getD l J 0 → s ≡ getD l I 0 → x ≡ bitXor f s
-    → p ≡ ltb (size x) (size s) → a ≡ cond p x s → y ≡ cond p s x → q ≡ ltb (size y) (size f) → b ≡ cond q y f
-    → (set (set l I a) J b ≡ exchange l J I) × (p || q ≡ changed? l (set (set l I a) J b))
+-- where a set is put the list has as many places
+pub put-inside : {ws vs : List ℕ} {i s k : ℕ} → Put ws i s vs → k < length (setsIn ws) → k < length (setsIn vs)
+put-inside {ws} {vs} w h = omega (arith, sets-long vs ws (w .long))
+
+-- an exchange set by set: f and s are sets J and I, x their sum, p and q the two tests, y what is left over; a is put at I, and b at J
+pub exchange-done : (ws : List ℕ) (J I : ℕ) → (J < I) × (I < length (setsIn ws))
+    → {vs us : List ℕ} {f s x a y b : ℕ} {p q : Bool} → f ≡ getD (setsIn ws) J 0 → s ≡ getD (setsIn ws) I 0 → x ≡ bitXor f s
+    → p ≡ ltb (size x) (size s) → a ≡ cond p x s → Put ws I a vs → y ≡ cond p s x → q ≡ ltb (size y) (size f) → b ≡ cond q y f → Put vs J b us
+    → (length us ≡ length ws) × ((setsIn us ≡ exchange (setsIn ws) J I) × (p || q ≡ changed? (setsIn ws) (setsIn us)))
 unfolding exchange exchanges?
-exchange-done l J I h {a = a} {b = b} ef es ex ep ea ey eq eb =
-    let made : set (set l I a) J b ≡ exchange l J I = simp (eb, eq, ey, ea, ep, ex, ef, es) in
-    (made, simp (eq, ey, ep, ex, ef, es) (exchange-changed l J I (h .0) (h .1)) ∙ ap (changed? l) (sym made))
+exchange-done ws J I h {a = a} {b = b} ef es ex ep ea one ey eq eb other =
+    let l = setsIn ws in
+    let put : set (set l I a) J b ≡ exchange l J I = simp (eb, eq, ey, ea, ep, ex, ef, es) in
+    let made = other .sets ∙ ap (λ (m : List ℕ). set m J b) (one .sets) ∙ put in
+    (other .long ∙ one .long, (made, simp (eq, ey, ep, ex, ef, es) (exchange-changed l J I (h .0) (h .1)) ∙ ap (changed? l) (sym made)))

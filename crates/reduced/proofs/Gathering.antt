@@ -1,46 +1,112 @@
--- Lists that are reduced one by one and written one after another over the start of a lent list. Assumes nothing.
-use mathlib.Core.Path.{_≡_, refl, sym, ap, _∙_}
+-- Lists of sets that are reduced one by one, one after another over the start of a lent list: the parts of a list that are lent on, and the
+-- loop. Assumes nothing.
+use mathlib.Core.Path.{_≡_, refl, sym, ap, ap₂, _∙_}
 use mathlib.Core.Bool.{true}
-use mathlib.Core.List.{List, _++_, append-assoc, append-nil}
-use Prim.Native.Nat.{ℕ, zero, suc, _+_, _-_, _≤_, _<_}
-use native.Mathlib.Nat.{le-antisymm}
+use mathlib.Core.List.{List, [], _++_, append-nil}
+use Prim.Native.Nat.{ℕ, _+_, _-_, _*_, _≤_, _<_}
 use native.Mathlib.Omega.{arith}
-use lib.ListN.{length, take, drop, length-append, length-drop}
-use lib.Seq.{take-append-seam, drop-append-seam, take-length, drop-length, drop-drop, length-take-le}
+use lib.ListN.{length, take, drop, length-append, length-drop, drop-of-length-le}
+use lib.Seq.{take-append-seam, drop-append-seam, drop-drop, take-all, length-take-le}
+use Rattle.sets.specs.Lists.{words, setsIn, wordsOf}
+use Rattle.sets.proofs.Lists.{sets-room, sets-take, sets-drop, sets-append, words-are}
 use Rattle.definitions.specs.Search.{gather, total}
 use Rattle.definitions.specs.Answer.{over}
 use Rattle.definitions.specs.Reduced.{reduced}
-use Rattle.definitions.proofs.Lists.{gather-step, gather-zero, length-gather, listed-ext}
+use Rattle.definitions.proofs.Lists.{gather-mono, length-gather, listed-ext}
 use Rattle.definitions.proofs.Sweeping.{reduced-length}
-use Rattle.table.proofs.Filling.{over-none, over-length}
+use Rattle.lent.specs.Appended.{Appended}
+use Rattle.lent.proofs.Appending.{over-length, Strung, strung-none, strung-length, strung-room, strung-more, strung-all, appended-over}
 
--- ---- one list, reduced in its place
+-- ---- the first sets of a list, which are lent on and reduced in their place
 
-module _ (items lent : List ℕ) {out : List ℕ} {n : ℕ} (count : n ≡ length items) (list : out ≡ over items lent) where
-  -- the items have their place in the list
-  pub part-long : length items ≤ length lent → n ≡ length (take n out)
-  part-long h = sym (length-take-le n out (omega (arith, count, ap length list, over-length items lent h)))
+-- the items stand over the start of the sets lent, n of them
+abbrev Front : List ℕ → List ℕ → List ℕ → ℕ → Type 0
+Front items lent ws n = (n ≡ length items) × ((length ws ≡ length lent) × (setsIn ws ≡ over items (setsIn lent)))
+
+module _ (items lent ws : List ℕ) {n : ℕ} (few : length items ≤ length (setsIn lent)) (f : Front items lent ws n) where
+  inside : n ≤ length (setsIn ws)
+  inside = omega (arith, f .0, ap length (f .1 .1), over-length items (setsIn lent) few)
+
+  -- their words are within the list
+  pub front-room : n * words ≤ length ws
+  front-room = omega (arith, sets-room n ws inside, words-are n)
+
+  -- and are so many
+  pub front-long : length (take (n * words) ws) ≡ n * words
+  front-long = length-take-le (n * words) ws front-room
+
+  -- they are the items
+  front-own : setsIn (take (n * words) ws) ≡ items
+  unfolding over
+  front-own =
+      ap (λ (m : ℕ). setsIn (take m ws)) (sym (words-are n))
+      ∙ sets-take n ws inside ∙ ap₂ take (f .0) (f .1 .1) ∙ take-append-seam items (drop (length items) (setsIn lent))
+
+  -- after them the list is as lent
+  front-rest : setsIn (drop (n * words) ws) ≡ drop (length (reduced items)) (setsIn lent)
+  unfolding over
+  front-rest =
+      ap (λ (m : ℕ). setsIn (drop m ws)) (sym (words-are n))
+      ∙ sets-drop n ws inside ∙ ap₂ drop (f .0) (f .1 .1) ∙ drop-append-seam items (drop (length items) (setsIn lent))
+      ∙ ap (λ (k : ℕ). drop k (setsIn lent)) (sym (reduced-length items))
 
   -- the reduced items in the place of the items
-  pub part-reduced : {v : List ℕ} → v ≡ reduced (take n out) → v ++ drop n out ≡ over (reduced items) lent
+  pub front-reduced : (v : List ℕ) → (length v ≡ length (take (n * words) ws)) × (setsIn v ≡ reduced (setsIn (take (n * words) ws)))
+      → (n ≡ length items) × ((length (v ++ drop (n * words) ws) ≡ length lent) × (setsIn (v ++ drop (n * words) ws) ≡ over (reduced items) (setsIn lent)))
   unfolding over
-  part-reduced e =
-      rw (e, list, count, take-append-seam, drop-append-seam, reduced-length)
+  front-reduced v e = (
+    f .0,
+    (
+      length-append v (drop (n * words) ws) ∙ omega (arith, e .0, front-long, front-room, length-drop (n * words) ws, f .1 .0),
+      sets-append n v (drop (n * words) ws) (e .0 ∙ front-long ∙ sym (words-are n)) ∙ ap₂ (λ (a b : List ℕ). a ++ b) (e .1 ∙ ap reduced front-own) front-rest,
+    ),
+  )
 
--- ---- items after items
+-- ---- the sets of a list from place k on, which are lent on
 
--- the part of a list after g, with items over its start
-seam : (g t items : List ℕ)
-    → take (length g) (g ++ t) ++ (over items (take (length (g ++ t) - length g) (drop (length g) (g ++ t))) ++ drop (length (g ++ t) - length g) (drop (length g) (g ++ t)))
-    ≡ g ++ over items t
-seam g t items =
-    let e : length (g ++ t) - length g ≡ length t = omega (arith, length-append g t) in
-    rw (take-append-seam, drop-append-seam, e, take-length, drop-length, append-nil)
+-- what is lent on
+abbrev pub rest : ℕ → List ℕ → List ℕ
+rest k ws = take (length ws - k * words) (drop (k * words) ws)
 
--- items over the part after g stand after g
-over-then : (g items lent : List ℕ) → g ++ over items (drop (length g) lent) ≡ over (g ++ items) lent
-unfolding over
-over-then g items lent = rw (drop-drop, length-append, append-assoc)
+-- the list where v comes back
+abbrev pub back : ℕ → List ℕ → List ℕ → List ℕ
+back k ws v = take (k * words) ws ++ (v ++ drop (length ws - k * words) (drop (k * words) ws))
+
+module _ (k : ℕ) (ws : List ℕ) (inside : k ≤ length (setsIn ws)) where
+  -- nothing of the list is after what is lent on
+  none-after : drop (length ws - k * words) (drop (k * words) ws) ≡ []
+  none-after = drop-of-length-le (drop (k * words) ws) {i = length ws - k * words} (omega (arith, length-drop (k * words) ws))
+
+  -- all of the words from k on are lent on
+  rest-whole : rest k ws ≡ drop (wordsOf k) ws
+  rest-whole =
+      take-all (length ws - k * words) (drop (k * words) ws) (omega (arith, length-drop (k * words) ws)) ∙ ap (λ (m : ℕ). drop m ws) (sym (words-are k))
+
+  -- their sets are those from k on
+  rest-sets : setsIn (rest k ws) ≡ drop k (setsIn ws)
+  rest-sets = ap setsIn rest-whole ∙ sets-drop k ws inside
+
+  back-is : (v : List ℕ) → back k ws v ≡ take (wordsOf k) ws ++ v
+  back-is v = ap₂ (λ (m : ℕ) (l : List ℕ). take m ws ++ l) (sym (words-are k)) (ap (λ (l : List ℕ). v ++ l) none-after ∙ append-nil v)
+
+  -- the list keeps its length
+  back-long : (v : List ℕ) → length v ≡ length (rest k ws) → length (back k ws v) ≡ length ws
+  back-long v long =
+      ap length (back-is v) ∙ length-append (take (wordsOf k) ws) v
+      ∙ omega (arith, long, ap length rest-whole, length-drop (wordsOf k) ws, length-take-le (wordsOf k) ws (sets-room k ws inside), sets-room k ws inside)
+
+  -- where v has items over its start, they are appended at k
+  back-sets : (v items : List ℕ) {next : ℕ} → setsIn v ≡ over items (setsIn (rest k ws)) → next ≡ k + length items
+      → Appended (setsIn ws) k items (setsIn (back k ws v)) next
+  unfolding over
+  back-sets v items e end = record {
+    end = end;
+    list =
+        ap setsIn (back-is v)
+        ∙ sets-append k (take (wordsOf k) ws) v (length-take-le (wordsOf k) ws (sets-room k ws inside))
+        ∙ ap₂ (λ (a b : List ℕ). a ++ b) (sets-take k ws inside)
+        (e ∙ ap (λ (l : List ℕ). items ++ l) (ap (drop (length items)) rest-sets ∙ drop-drop (length items) k (setsIn ws) ∙ ap (λ (n : ℕ). drop n (setsIn ws)) (sym end)));
+  }
 
 -- ---- the lists one after another
 
@@ -51,91 +117,47 @@ gather-reduced-length n f =
     ∙ ap total (listed-ext n (λ a. true) (λ a. true) _ _ (λ a h. refl) (λ a h e. reduced-length (f a)))
     ∙ sym (length-gather n f)
 
--- the first lists are no longer than all
-gather-grows : (d a : ℕ) (f : ℕ → List ℕ) → length (gather a f) ≤ length (gather (a + d) f)
-gather-grows zero a f = omega (arith, ap (λ (n : ℕ). length (gather n f)) (let e : a + 0 ≡ a = omega arith in e))
-gather-grows (suc d) a f =
-    omega (
-      arith,
-      gather-grows d a f,
-      ap (λ (n : ℕ). length (gather n f)) (let e : a + suc d ≡ a + d + 1 = omega arith in e),
-      ap length (gather-step (a + d) f) ∙ length-append (gather (a + d) f) (f (a + d)),
-    )
-
--- of N lists those before a, each reduced, stand over the start of lent, up to the place `at`
-pub record Gathered (N : ℕ) (f : ℕ → List ℕ) (lent out : List ℕ) (at a : ℕ) : Type 0 where
-  pub within : a ≤ N
-  pub room : length (gather N f) ≤ length lent
-  pub place : at ≡ length (gather a (λ b. reduced (f b)))
-  pub list : out ≡ over (gather a (λ b. reduced (f b))) lent
+-- of N lists those before a, each reduced, stand over the start of the sets lent, up to the place `at`
+pub record Gathered (f : ℕ → List ℕ) (N : ℕ) (lent out : List ℕ) (at a : ℕ) : Type 0 where
+  pub long : length out ≡ length lent
+  pub strung : Strung (λ b. reduced (f b)) N (setsIn lent) (setsIn out) 0 at a
 
 -- before the first list
-pub gathered-none : (N : ℕ) (f : ℕ → List ℕ) (lent : List ℕ) → length (gather N f) ≤ length lent → Gathered N f lent lent 0 0
-gathered-none N f lent h = record {
-  within = omega arith;
-  room = h;
-  place = ap length (sym (gather-zero (λ b. reduced (f b))));
-  list = sym (ap (λ (g : List ℕ). over g lent) (gather-zero (λ b. reduced (f b))) ∙ over-none lent);
-}
+pub gathered-none : (f : ℕ → List ℕ) (N : ℕ) (lent : List ℕ) → length (gather N f) ≤ length (setsIn lent) → Gathered f N lent lent 0 0
+gathered-none f N lent h = record { long = refl; strung = strung-none (λ b. reduced (f b)) N (setsIn lent) 0 (omega (arith, gather-reduced-length N f)) }
 
-module _ {N : ℕ} {f : ℕ → List ℕ} {lent out : List ℕ} {at a : ℕ} (s : Gathered N f lent out at a) where
-  -- what is written is within the list
-  low : length (gather a (λ b. reduced (f b))) ≤ length lent
-  low =
+module _ {f : ℕ → List ℕ} {N : ℕ} {lent out : List ℕ} {at a : ℕ} (s : Gathered f N lent out at a) where
+  module _ (h : a < N) {g : List ℕ} (is : g ≡ f a) where
+    -- the next list has room after the place reached
+    pub gathered-room : at + length g ≤ length (setsIn out)
+    gathered-room = omega (arith, strung-room (s .strung) h, ap length is, reduced-length (f a))
+
+    -- what is lent on has room for it
+    pub gathered-rest : length g ≤ length (setsIn (rest at out))
+    gathered-rest = omega (arith, gathered-room, ap length (rest-sets at out (omega (arith, gathered-room))), length-drop at (setsIn out))
+
+    -- one list more
+    pub gathered-more : (v : List ℕ) {r : ℕ} → (r ≡ length g) × ((length v ≡ length (rest at out)) × (setsIn v ≡ over (reduced g) (setsIn (rest at out))))
+        → Gathered f N lent (back at out v) (at + r) (a + 1)
+    gathered-more v e =
+        let inside : at ≤ length (setsIn out) = omega (arith, gathered-room) in
+        record {
+          long = back-long at out inside v (e .1 .0) ∙ s .long;
+          strung =
+              strung-more (s .strung) h
+              (back-sets at out inside v (reduced (f a)) (e .1 .1 ∙ ap (λ (l : List ℕ). over (reduced l) (setsIn (rest at out))) is)
+              (omega (arith, e .0, ap length is, reduced-length (f a))));
+        }
+
+  -- the words of the sets before the place reached are within the list
+  pub gathered-low : at * words ≤ length out
+  gathered-low =
       omega (
         arith,
-        s .room,
-        gather-reduced-length a f,
-        gather-grows (N - a) a f,
-        ap (λ (n : ℕ). length (gather n f)) (let e : a + (N - a) ≡ N = omega (arith, s .within) in e),
+        words-are at,
+        sets-room at out (omega (arith, s .strung .room, s .strung .text .end, strung-length (s .strung), gather-mono (λ b. reduced (f b)) a N (s .strung .within))),
       )
-
-  -- the list keeps its length
-  pub gathered-length : length out ≡ length lent
-  gathered-length = ap length (s .list) ∙ over-length _ lent low
-
-  -- the place reached is within it
-  pub gathered-low : at ≤ length out
-  gathered-low = omega (arith, s .place, low, gathered-length)
-
-  -- the next list has room after that place
-  pub gathered-room : {g : List ℕ} → a < N → g ≡ f a → at + length g ≤ length out
-  gathered-room h is =
-      omega (
-        arith,
-        ap length is,
-        s .room,
-        s .place,
-        gathered-length,
-        gather-reduced-length a f,
-        gather-grows (N - (a + 1)) (a + 1) f,
-        ap (λ (n : ℕ). length (gather n f)) (let e : a + 1 + (N - (a + 1)) ≡ N = omega arith in e),
-        ap length (gather-step a f) ∙ length-append (gather a f) (f a),
-      )
-
-  -- the part of the list from that place on is long enough for the next
-  pub gathered-part : {g : List ℕ} → a < N → g ≡ f a → length g ≤ length (take (length out - at) (drop at out))
-  gathered-part h is =
-      let whole : length (take (length out - at) (drop at out)) ≡ length out - at
-      = length-take-le (length out - at) (drop at out) (omega (arith, length-drop at out)) in
-      omega (arith, whole, gathered-room h is)
-
-  -- one list more
-  pub gathered-more : {r : ℕ} {g v : List ℕ} → a < N → g ≡ f a → r ≡ length g → v ≡ over (reduced g) (take (length out - at) (drop at out))
-      → Gathered N f lent (take at out ++ (v ++ drop (length out - at) (drop at out))) (at + r) (a + 1)
-  unfolding over
-  gathered-more {r} {g} {v} h is count e =
-      let done = gather a (λ b. reduced (f b)) in
-      let step = gather-step a (λ b. reduced (f b)) in
-      record {
-        within = omega arith;
-        room = s .room;
-        place = omega (arith, s .place, count, ap length is, reduced-length (f a), ap length step ∙ length-append done (reduced (f a)));
-        list =
-            rw (e, is, s .place, s .list)
-            (seam done (drop (length done) lent) (reduced (f a)) ∙ over-then done (reduced (f a)) lent ∙ ap (λ (g : List ℕ). over g lent) (sym step));
-      }
 
   -- after the last list
-  pub gathered-all : N ≤ a → out ≡ over (gather N (λ b. reduced (f b))) lent
-  gathered-all h = s .list ∙ ap (λ (n : ℕ). over (gather n (λ b. reduced (f b))) lent) (le-antisymm (s .within) h)
+  pub gathered-all : N ≤ a → (length out ≡ length lent) × (setsIn out ≡ over (gather N (λ b. reduced (f b))) (setsIn lent))
+  gathered-all h = (s .long, appended-over (strung-all (s .strung) h))

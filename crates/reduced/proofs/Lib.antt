@@ -4,10 +4,10 @@
 --     Still        the sweeps until one changes nothing
 --     Picking      a loop over the members of a set that writes the ring of each
 --     Gathering    lists that are reduced and written one after another
---     Assembled    the rings of the assemblies, each reduced, are the reduced basis
+--     Reducing     the rings of the assemblies, each reduced, are the reduced basis
 pub mod Changing
 pub mod Underway
 pub mod Still
 pub mod Picking
 pub mod Gathering
-pub mod Assembled
+pub mod Reducing

@@ -7,10 +7,9 @@ use mathlib.Core.Path.{_≡_, sym, ap, _∙_}
 use Prim.Native.Nat.{ℕ, _<_}
 use native.Mathlib.Omega.{arith}
 use borrow.Author.Tests.{not-false}
-use lib.ListN.{length}
 use Rattle.definitions.specs.Reduced.{sweep, same?, weight, reduced}
 use Rattle.definitions.proofs.Lists.{same-lists}
-use Rattle.definitions.proofs.Sweeping.{sweep-falls, reduced-length, reduced-still, reduced-sweep}
+use Rattle.definitions.proofs.Sweeping.{sweep-falls, reduced-still, reduced-sweep}
 use Rattle.reduced.specs.Change.{changed?}
 use Rattle.reduced.proofs.Changing.{changed-none}
 
@@ -27,10 +26,6 @@ swept-falls m n s e =
 -- a sweep leads to the same reduced list
 pub swept-same : (l m n : List ℕ) {r : Bool} → reduced m ≡ reduced l → Swept m n r → reduced n ≡ reduced l
 swept-same l m n e s = ap reduced (s .0) ∙ reduced-sweep m ∙ e
-
--- lists with the same reduced list have as many sets
-pub reduced-long : (l m : List ℕ) → reduced m ≡ reduced l → length m ≡ length l
-reduced-long l m e = sym (reduced-length m) ∙ ap length e ∙ reduced-length l
 
 -- after a sweep that changed nothing the list is the reduced one
 pub swept-still : (l m n : List ℕ) {r : Bool} → reduced m ≡ reduced l → Swept m n r → r ≡ false → n ≡ reduced l

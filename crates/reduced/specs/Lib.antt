@@ -1,3 +1,4 @@
 -- The definitions that the contracts of reduced cite beside those of `definitions`.
 pub mod Change
 pub mod Picked
+pub mod Reduces

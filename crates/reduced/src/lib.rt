@@ -2,30 +2,56 @@
 mod assembly;
 mod sweep;
 
+use answers::Answer;
+use answers::BASIS_WORDS;
+use answers::write_sets;
 use assembly::reduce_all;
-use table::Answer;
 ghost use mathlib.Core.Path.{_≡_};
 ghost use Rattle.definitions.specs.Table.{table, refusal};
 ghost use Rattle.definitions.specs.Reduced.{reducedBasis};
-ghost use Rattle.definitions.specs.Answer.{outcomeOf, outcome};
+ghost use Rattle.definitions.specs.Answer.{outcomeOf, writtenSets};
+ghost use Rattle.reduced.specs.Reduces.{Reduces};
 
-// The reduced basis, a word a set, assemblies in order; refusals 1 to 6, then 8.
-pub fn reduced_basis(atoms: u64, bonds: &[u8], out: &mut [u64]) -> Answer
-    ensures { λ r. ⌜ outcomeOf (r .number) (r .count) (now (out .exit)) ≡ outcome (refusal (table atoms (now (bonds .entry)))) (reducedBasis (table atoms (now (bonds .entry)))) (now (out .entry)) ⌝ }
+// The number of the refusal, or 0 and the reduced sets: the first count sets of a list.
+pub struct Reduced {
+    pub number: u8,
+    pub sets: [u64; BASIS_WORDS],
+    pub count: usize,
+}
+
+// The reduced sets of a table, assemblies in order.
+pub fn reduce(atoms: u64, bonds: &[u8]) -> Reduced
+    ensures { λ r. ⌜ Reduces (table atoms (now (bonds .entry))) r ⌝ }
 {
+    let mut sets = [0u64; BASIS_WORDS];
     let number = table::refusal_of(atoms, bonds);
     if number > 0 {
-        return Answer { number, count: 0 };
-    }
-    let basis = basis::basis_of(atoms, bonds);
-    let count = basis.count;
-    if count > out.len() {
-        return Answer {
-            number: table::ROOM,
+        return Reduced {
+            number,
+            sets,
             count: 0,
         };
     }
-    let assemblies = basis::assemblies_of(&basis.rings, count);
-    reduce_all(&basis.rings, &assemblies.members, assemblies.count, out);
-    Answer { number: 0, count }
+    let basis = basis::basis_of(atoms, bonds);
+    let assemblies = basis::assemblies_of(&basis.rings, basis.count);
+    reduce_all(&basis.rings, assemblies, &mut sets);
+    Reduced {
+        number: 0,
+        sets,
+        count: basis.count,
+    }
+}
+
+// The reduced basis: sets as words, assemblies in order; the refusals of a table, then 8.
+pub fn reduced_basis(atoms: u64, bonds: &[u8], out: &mut [u64]) -> Answer
+    ensures { λ r. ⌜ outcomeOf (r .number) (r .count) (now (out .exit)) ≡ writtenSets (refusal (table atoms (now (bonds .entry)))) (reducedBasis (table atoms (now (bonds .entry)))) (now (out .entry)) ⌝ }
+{
+    let found = reduce(atoms, bonds);
+    if found.number > 0 {
+        return Answer {
+            number: found.number,
+            count: 0,
+        };
+    }
+    write_sets(&found.sets, found.count, out)
 }

@@ -1,5 +1,6 @@
-// The sweeps over the sets of one assembly, in place in a lent list: each word is a bond set.
+// The sweeps over the sets of one assembly, in place in a list.
 use sets::BondSet;
+use sets::list::sets_in;
 ghost use mathlib.Core.Path.{_≡_};
 ghost use mathlib.Core.Bool.{cond};
 ghost use Prim.Native.Nat.{_+_, _-_, _<_};
@@ -7,6 +8,7 @@ ghost use lib.ListN.{length};
 ghost use lib.Dec.{ltb};
 ghost use Rattle.sets.specs.Bits.{size};
 ghost use Rattle.sets.specs.Bond.{bits};
+ghost use Rattle.sets.specs.Lists.{setsIn};
 ghost use Rattle.definitions.specs.Reduced as spec;
 ghost use Rattle.reduced.specs.Change.{changed?};
 
@@ -26,29 +28,31 @@ fn either(test: bool, one: BondSet, other: BondSet) -> BondSet
 
 // The exchange at the pair (j, i), and whether it changes anything.
 fn exchange(sets: &mut [u64], j: usize, i: usize) -> bool
-    requires { ⌜ (j < i) × (i < length (now sets)) ⌝ }
-    ensures list { λ r. ⌜ now (sets .exit) ≡ spec.exchange (now (sets .entry)) j i ⌝ }
-    ensures told { λ r. ⌜ r ≡ changed? (now (sets .entry)) (now (sets .exit)) ⌝ }
+    requires { ⌜ (j < i) × (i < length (setsIn (now sets))) ⌝ }
+    ensures long { λ _. ⌜ length (now (sets .exit)) ≡ length (now (sets .entry)) ⌝ }
+    ensures list { λ r. ⌜ setsIn (now (sets .exit)) ≡ spec.exchange (setsIn (now (sets .entry))) j i ⌝ }
+    ensures told { λ r. ⌜ r ≡ changed? (setsIn (now (sets .entry))) (setsIn (now (sets .exit))) ⌝ }
 {
-    let first = BondSet::of_word(sets[j]);
-    let second = BondSet::of_word(sets[i]);
+    let first = BondSet::at(sets, j);
+    let second = BondSet::at(sets, i);
     let sum = first.sum(second);
     let swaps = smaller(sum, second);
-    sets[i] = either(swaps, sum, second).0;
+    either(swaps, sum, second).put_at(sets, i);
     let left = either(swaps, second, sum);
     let puts = smaller(left, first);
-    sets[j] = either(puts, left, first).0;
+    either(puts, left, first).put_at(sets, j);
     swaps | puts
 }
 
 // The pairs of set j with each set after it, and whether one changes anything.
 fn along(sets: &mut [u64], j: usize) -> bool
-    requires { ⌜ j < length (now sets) ⌝ }
-    ensures list { λ r. ⌜ now (sets .exit) ≡ spec.along j (j + 1) (length (now (sets .entry)) - (j + 1)) (now (sets .entry)) ⌝ }
-    ensures told { λ r. ⌜ r ≡ changed? (now (sets .entry)) (now (sets .exit)) ⌝ }
+    requires { ⌜ j < length (setsIn (now sets)) ⌝ }
+    ensures long { λ _. ⌜ length (now (sets .exit)) ≡ length (now (sets .entry)) ⌝ }
+    ensures list { λ r. ⌜ setsIn (now (sets .exit)) ≡ spec.along j (j + 1) (length (setsIn (now (sets .entry))) - (j + 1)) (setsIn (now (sets .entry))) ⌝ }
+    ensures told { λ r. ⌜ r ≡ changed? (setsIn (now (sets .entry))) (setsIn (now (sets .exit))) ⌝ }
 {
     let mut changed = false;
-    for i in j + 1..sets.len() {
+    for i in j + 1..sets_in(sets) {
         changed = exchange(sets, j, i) | changed;
     }
     changed
@@ -56,11 +60,12 @@ fn along(sets: &mut [u64], j: usize) -> bool
 
 // One sweep over all pairs, and whether it changes anything.
 fn sweep(sets: &mut [u64]) -> bool
-    ensures list { λ r. ⌜ now (sets .exit) ≡ spec.sweep (now (sets .entry)) ⌝ }
-    ensures told { λ r. ⌜ r ≡ changed? (now (sets .entry)) (now (sets .exit)) ⌝ }
+    ensures long { λ _. ⌜ length (now (sets .exit)) ≡ length (now (sets .entry)) ⌝ }
+    ensures list { λ r. ⌜ setsIn (now (sets .exit)) ≡ spec.sweep (setsIn (now (sets .entry))) ⌝ }
+    ensures told { λ r. ⌜ r ≡ changed? (setsIn (now (sets .entry))) (setsIn (now (sets .exit))) ⌝ }
 {
     let mut changed = false;
-    for j in 0..sets.len() {
+    for j in 0..sets_in(sets) {
         changed = along(sets, j) | changed;
     }
     changed
@@ -68,7 +73,8 @@ fn sweep(sets: &mut [u64]) -> bool
 
 // Sweeps until one changes nothing.
 pub(crate) fn sweep_until_still(sets: &mut [u64])
-    ensures { λ r. ⌜ now (sets .exit) ≡ spec.reduced (now (sets .entry)) ⌝ }
+    ensures long { λ _. ⌜ length (now (sets .exit)) ≡ length (now (sets .entry)) ⌝ }
+    ensures list { λ r. ⌜ setsIn (now (sets .exit)) ≡ spec.reduced (setsIn (now (sets .entry))) ⌝ }
 {
     while sweep(sets) {}
 }

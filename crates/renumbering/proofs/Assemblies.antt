@@ -3,8 +3,7 @@
 -- inside its bonds, so there are as many of them on both sides. Assumes nothing.
 use mathlib.Core.Path.{_≡_, sym, ap, ap₂, subst, _∙_}
 use mathlib.Core.Bool.{true}
-use mathlib.Core.List.{[], _∷_, map}
-use mathlib.Core.List.{List·Memᴰ as In}
+use mathlib.Core.List.{[], _∷_, map, List·Memᴰ as In}
 use Prim.Native.Nat.{ℕ, _+_, _*_, _^_, _≤_, _<_}
 use native.Mathlib.Nat.{le-antisymm, lt-irrefl, lt-of-lt-of-le, pos-of-ne-zero}
 use lib.ListN.{length, getD}
@@ -29,9 +28,9 @@ use Rattle.spans.proofs.Invariant.{map-span, image-length}
 use Rattle.cycles.proofs.BasisRings.{basis-even}
 use Rattle.cycles.proofs.BasisList.{place-lt, basis-rings-are-rings}
 use Rattle.cycles.proofs.Assemblies.{assemblyBonds, assembly-bond, assembly-evens, assembly-independent, assemblies-disjoint, ring-in-one-assembly, Together, alone, held, assembly-class}
-use Rattle.renumbering.specs.Renumbered.{Renumbered, carried}
+use Rattle.renumbering.specs.Renumbered.{Renumbered}
 use Rattle.renumbering.proofs.Matching.{matched-count}
-use Rattle.renumbering.proofs.Images.{image-xor, image-new, image-member, image-sub, image-one, image-none, size-image}
+use Rattle.renumbering.proofs.Images.{carried, image-xor, image-new, image-member, image-sub, image-one, image-none, size-image}
 use Rattle.renumbering.proofs.Tables.{renumbered-back}
 use Rattle.renumbering.proofs.Refusals.{refusals-of-renumbered}
 use Rattle.renumbering.proofs.Sets.{carried-there, carried-here, even-carried, even-back, ring-carried}

@@ -9,12 +9,21 @@ use lib.Dec.{ltb}
 use borrow.Author.Tests.{ltb-true, ltb-false, lt-ltb}
 use Rattle.sets.specs.Bits.{has, Sub, size}
 use Rattle.sets.proofs.Laws.{ext, empty, has-xor, has-zero, has-above}
-use Rattle.definitions.specs.Search.{count}
+use Rattle.definitions.specs.Search.{count, setOf}
+use Rattle.definitions.specs.Table.{Table, bonds}
 use Rattle.definitions.proofs.Tests.{by, and-both}
 use Rattle.definitions.proofs.Lists.{those-in, count-ext, has-setOf, setOf-lt, setOf-is, size-setOf}
 use Rattle.cycles.proofs.Xor.{and-xor}
-use Rattle.renumbering.specs.Renumbered.{Renames, image}
+use Rattle.renumbering.specs.Renumbered.{Renames, Renumbered}
 use Rattle.renumbering.proofs.Matching.{matched-count}
+
+-- a set of numbers below n under new numbers, where g gives the old ones back
+unfoldable pub image : ℕ → (ℕ → ℕ) → ℕ → ℕ
+image n g s = setOf n (λ j. has s (g j))
+
+-- a bond set of M under the numbers of N
+abbrev pub carried : {M N : Table} → Renumbered M N → ℕ → ℕ
+carried {M} r = image (bonds M) (r .bond⁻¹)
 
 -- what renames, read the other way
 pub renames-back : {n : ℕ} {f g : ℕ → ℕ} → Renames n f g → Renames n g f

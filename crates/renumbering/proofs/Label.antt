@@ -11,11 +11,11 @@ use borrow.Author.Tests.{eqb-true, eqb-false}
 use Rattle.sets.specs.Bits.{size}
 use Rattle.definitions.specs.Table.{Table, maxBonds, refusal, TANGLED}
 use Rattle.definitions.specs.Label.{bytesOf, bytesOfAll, field, occurs, histogram, frerejacque, frerejacqueTag, ringsTag, smallestTag, assembliesTag, labelOf}
-use Rattle.definitions.specs.Answer.{over, outcome, refusalOfRings}
+use Rattle.definitions.specs.Answer.{over, outcome, written, refusalOfRings}
 use Rattle.definitions.proofs.Tests.{by}
 use Rattle.definitions.proofs.Lists.{gather-ext}
 use Rattle.definitions.proofs.Refusals.{Valid, accepted, rings-kept, rings-free, rings-accepted}
-use Rattle.renumbering.specs.Renumbered.{Renumbered, InRange, labelAnswer, Agree}
+use Rattle.renumbering.specs.Renumbered.{Renumbered, InRange, Agree}
 use Rattle.renumbering.proofs.Tables.{same-bonds}
 use Rattle.renumbering.proofs.Refusals.{refusals-of-renumbered}
 use Rattle.renumbering.proofs.Rings.{rings-of-renumbered, sizes-of-renumbered}
@@ -33,7 +33,7 @@ module _ {M N : Table} (r : Renumbered M N) (inside : InRange M) where
   unfolding frerejacque
   frerejacque-of-renumbered = ap₂ (λ (m n : ℕ). m + 1 - n) (same-bonds r) (r .atoms)
 
-  -- the labels of accepted tables are the same, byte for byte
+  -- the labels of accepted tables agree in every byte
   pub label-same : Valid M → labelOf M ≡ labelOf N
   unfolding labelOf
   label-same v =
@@ -55,14 +55,14 @@ module _ {M N : Table} (r : Renumbered M N) (inside : InRange M) where
 -- ---- answers
 
 -- the same refusal, and the same items where there is none, give the same answer
-outcome-same : (c : ℕ) (x y lent : List ℕ) → (c ≡ 0 → x ≡ y) → outcome c x lent ≡ outcome c y lent
-unfolding outcome
-outcome-same zero x y lent h = ap (λ l. outcome 0 l lent) (h refl)
+outcome-same : (c : ℕ) (x y lent : List ℕ) → (c ≡ 0 → x ≡ y) → written c x lent ≡ written c y lent
+unfolding written outcome
+outcome-same zero x y lent h = ap (λ l. written 0 l lent) (h refl)
 outcome-same (suc c) x y lent h = refl
 
 -- answers written to lists of equal length agree
-outcome-agrees : (c : ℕ) (wanted lent lent′ : List ℕ) → length lent ≡ length lent′ → Agree (outcome c wanted lent) (outcome c wanted lent′)
-unfolding outcome over
+outcome-agrees : (c : ℕ) (wanted lent lent′ : List ℕ) → length lent ≡ length lent′ → Agree (written c wanted lent) (written c wanted lent′)
+unfolding written outcome over
 outcome-agrees zero wanted lent lent′ e =
     by (leb (length wanted) (length lent))
     (λ t. rw (t, ap (leb (length wanted)) (sym e) ∙ t)
@@ -72,12 +72,12 @@ outcome-agrees (suc c) wanted lent lent′ e = record { number = refl; count = r
 
 module _ {M N : Table} (r : Renumbered M N) (inside : InRange M) where
   -- with the same lent list, renumbered tables get the same answer
-  pub label-answer-same : (lent : List ℕ) → labelAnswer M lent ≡ labelAnswer N lent
+  pub label-answer-same : (lent : List ℕ) → written (refusalOfRings M) (labelOf M) lent ≡ written (refusalOfRings N) (labelOf N) lent
   label-answer-same lent =
       outcome-same (refusalOfRings M) (labelOf M) (labelOf N) lent (λ z. label-same r inside (accepted M .0 (rings-accepted M .0 z .0)))
-      ∙ ap (λ (c : ℕ). outcome c (labelOf N) lent) (rings-refusal-of-renumbered r inside)
+      ∙ ap (λ (c : ℕ). written c (labelOf N) lent) (rings-refusal-of-renumbered r inside)
 
-  -- with lent lists of equal length, "the same label, byte for byte, or the same refusal"
-  pub label-of-renumbered : (lent lent′ : List ℕ) → length lent ≡ length lent′ → Agree (labelAnswer M lent) (labelAnswer N lent′)
+  -- with lent lists of equal length: the bytes agree, and so does a refusal
+  pub label-of-renumbered : (lent lent′ : List ℕ) → length lent ≡ length lent′ → Agree (written (refusalOfRings M) (labelOf M) lent) (written (refusalOfRings N) (labelOf N) lent′)
   label-of-renumbered lent lent′ e =
-      subst (λ x. Agree x (labelAnswer N lent′)) (sym (label-answer-same lent)) (outcome-agrees (refusalOfRings N) (labelOf N) lent lent′ e)
+      subst (λ x. Agree x (written (refusalOfRings N) (labelOf N) lent′)) (sym (label-answer-same lent)) (outcome-agrees (refusalOfRings N) (labelOf N) lent lent′ e)

@@ -2,8 +2,7 @@
 use mathlib.Core.Path.{_≡_, refl, ap}
 use mathlib.Core.Logic.{⊎-elim}
 use mathlib.Core.Bool.{Bool}
-use mathlib.Core.List.{List, [], _∷_}
-use mathlib.Core.List.{List·Memᴰ as In, List·Memᴰ·head as here, List·Memᴰ·tail as there, List·Memᴰ·not-nil as not-in-nil, List·Memᴰ·cases-cons as in-cons}
+use mathlib.Core.List.{List, [], _∷_, List·Memᴰ as In, List·Memᴰ·head as here, List·Memᴰ·tail as there, List·Memᴰ·not-nil as not-in-nil, List·Memᴰ·cases-cons as in-cons}
 use Prim.Native.Nat.{ℕ, suc, _≤_}
 use native.Mathlib.Omega.{arith}
 use lib.ListN.{length}

@@ -2,8 +2,7 @@
 -- size in every smallest basis, since sums are carried to sums. Assumes nothing.
 use mathlib.Core.Path.{_≡_, refl, sym, ap, _∙_}
 use mathlib.Core.Bool.{true}
-use mathlib.Core.List.{List, map}
-use mathlib.Core.List.{List·Memᴰ as In, List·Memᴰ·head as here, List·Memᴰ·tail as there}
+use mathlib.Core.List.{List, map, List·Memᴰ as In, List·Memᴰ·head as here, List·Memᴰ·tail as there}
 use Prim.Native.Nat.{ℕ, _^_, _≤_, _<_}
 use native.Mathlib.Nat.{le-antisymm}
 use native.Mathlib.Omega.{arith}
@@ -22,9 +21,9 @@ use Rattle.spans.proofs.Invariant.{Carries, invariant-occurs}
 use Rattle.spans.proofs.Smallest.{before-rising}
 use Rattle.cycles.proofs.Evens.{even-zero, even-xor}
 use Rattle.cycles.proofs.Smallest.{smallest-basis-theorem, smallest-basis-sizes}
-use Rattle.renumbering.specs.Renumbered.{Renumbered, carried, InRange}
+use Rattle.renumbering.specs.Renumbered.{Renumbered, InRange}
 use Rattle.renumbering.proofs.Matching.{Matches, matched-length}
-use Rattle.renumbering.proofs.Images.{image-xor, image-one, image-none, size-image}
+use Rattle.renumbering.proofs.Images.{carried, image-xor, image-one, image-none, size-image}
 use Rattle.renumbering.proofs.Tables.{range-carried, renumbered-back}
 use Rattle.renumbering.proofs.Sets.{carried-here, ring-carried}
 

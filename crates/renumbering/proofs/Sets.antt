@@ -8,8 +8,8 @@ use Rattle.definitions.specs.Search.{count}
 use Rattle.definitions.specs.Table.{Table, bonds, meets?}
 use Rattle.definitions.specs.Ring.{degree, Even, Ring}
 use Rattle.definitions.proofs.Lists.{count-ext}
-use Rattle.renumbering.specs.Renumbered.{Renumbered, image, carried, InRange}
-use Rattle.renumbering.proofs.Images.{count-renamed, image-lt, image-at, image-sub, image-back, image-none}
+use Rattle.renumbering.specs.Renumbered.{Renumbered, InRange}
+use Rattle.renumbering.proofs.Images.{image, carried, count-renamed, image-lt, image-at, image-sub, image-back, image-none}
 use Rattle.renumbering.proofs.Tables.{same-bonds, range-carried, renumbered-back, meets-carried}
 
 -- ---- a set is carried and comes back

@@ -1,9 +1,7 @@
 -- How long a label can be: at most 13 bytes and 7 for each bond, since the sizes of rings lie between 1 and the number of bonds, and there
--- are no more assemblies than basis rings, and no more basis rings than bonds.
--- Assumes nothing.
+-- are no more assemblies than basis rings, and no more basis rings than bonds. Assumes nothing.
 use mathlib.Core.Path.{_≡_, ap}
-use mathlib.Core.List.{List, [], _∷_, _++_, map}
-use mathlib.Core.List.{List·Memᴰ as In, Memᴰ·of-map}
+use mathlib.Core.List.{List, [], _∷_, _++_, map, List·Memᴰ as In, Memᴰ·of-map}
 use Prim.Native.Nat.{ℕ, zero, suc, _+_, _*_, _<_, _≤_}
 use native.Mathlib.Nat.{mul-suc}
 use native.Mathlib.Decide.{le-ind}
@@ -22,10 +20,10 @@ use Rattle.definitions.proofs.Sorting.{occurs-absent}
 use Rattle.definitions.proofs.Rings.{all-rings-are}
 use Rattle.definitions.proofs.Paths.{basis-at-most}
 use Rattle.spans.proofs.Taking.{taking-in}
-use Rattle.label.specs.Sizes.{line}
-use Rattle.label.proofs.Bytes.{length-bytesOfAll}
-use Rattle.label.proofs.Tagging.{length-field}
-use Rattle.label.proofs.Counting.{line-none, line-at-most}
+use Rattle.labels.specs.Sizes.{line}
+use Rattle.fields.proofs.Bytes.{length-bytesOfAll}
+use Rattle.fields.proofs.Tagging.{length-field}
+use Rattle.labels.proofs.Counting.{line-none, line-at-most}
 use Rattle.label.proofs.Fitting.{pairs-at-most}
 
 -- texts of at most w bytes, of which only those from 1 to b say something, have w bytes for each of b at most

@@ -1,13 +1,11 @@
--- The laws of the program's text and records.
---     Digits       numbers in decimal and bytes in hex
---     Writing      texts that grow in a lent list
---     Records      when a list starts with a whole record, and the lines of what follows
---     Bounds       how long a label and a line can be
+-- The laws of the program's lines.
+--     Writing      how long the lines are, and their parts
+--     Lines        the lines of the records of a list
+--     Bounds       how long a label can be
 --     Answering    the line of a record from the answer of its label
 --     Printing     the loop over the records
-pub mod Digits
 pub mod Writing
-pub mod Records
+pub mod Lines
 pub mod Bounds
 pub mod Answering
 pub mod Printing

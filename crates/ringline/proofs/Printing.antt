@@ -1,5 +1,4 @@
--- The loop over the records: what is printed so far, and the lines of what is left, are the lines of the whole input.
--- Assumes nothing.
+-- The loop over the records: what is printed so far, and the lines of what is left, are the lines of the whole input. Assumes nothing.
 use mathlib.Core.Path.{_≡_, sym, ap, _∙_}
 use mathlib.Core.Bool.{true, false}
 use mathlib.Core.List.{List, [], _++_, append-assoc}
@@ -10,14 +9,15 @@ use lib.ListN.{length, take, drop, length-append, length-drop}
 use lib.Seq.{take-all, take-at, drop-drop, length-take-le}
 use borrow.Author.Tests.{eqb-true, eqb-false, lt-ltb, le-ltb}
 use Rattle.io.specs.Counts.{Counts}
-use Rattle.definitions.specs.Ringline.{recordLine, recordTable, recordBytes, whole?, maxInput, longLine, firstLine, ringline}
+use Rattle.definitions.specs.Records.{recordTable, recordBytes, whole?}
+use Rattle.definitions.specs.Ringline.{recordLine, maxInput, longLine, firstLine, ringline}
 use Rattle.definitions.proofs.Tests.{by}
-use Rattle.label.specs.Text.{Appended}
-use Rattle.label.proofs.Appending.{appended-none, appended-more, appended-as, appended-length}
+use Rattle.lent.specs.Appended.{Appended}
+use Rattle.lent.proofs.Appending.{appended-none, appended-more, appended-as, appended-length}
 use Rattle.ringline.specs.Line.{lastLine}
 use Rattle.ringline.proofs.Writing.{last-ended, last-broken}
-use Rattle.ringline.proofs.Records.{whole-fits, lines, lines-end, lines-frame, lines-record}
-use Rattle.ringline.proofs.Answering.{line-most}
+use Rattle.records.proofs.Records.{whole-fits}
+use Rattle.ringline.proofs.Lines.{lines, lines-end, lines-frame, lines-record}
 
 -- what is left of the input from a place on, as the code lends it
 abbrev pub left : List ℕ → ℕ → List ℕ
@@ -76,17 +76,16 @@ module _ {input lent out : List ℕ} {at number from next : ℕ} (p : Printed in
     printed-within = omega (arith, whole-fits (left input from) w, length-left input from, p .within)
 
     -- the next record is printed
-    pub printed-more : {out′ : List ℕ} {next′ k : ℕ} → length input ≤ maxInput → Appended out next (recordLine number (recordTable (left input from))) out′ next′ → k ≡ recordBytes (left input from)
+    pub printed-more : {out′ : List ℕ} {next′ k : ℕ} → Appended out next (recordLine number (recordTable (left input from))) out′ next′ → next′ ≤ next + 7 * recordBytes (left input from) → k ≡ recordBytes (left input from)
         → Printed input lent out′ at (number + 1) (from + k) next′
-    printed-more {out′} {next′} {k} h a e =
+    printed-more {out′} {next′} {k} a short e =
         let bs = left input from in
         let fits : recordBytes bs ≤ length bs = whole-fits bs w in
-        let short : length (recordLine number (recordTable bs)) ≤ 7 * recordBytes bs = line-most number bs (printed-few h) in
         record {
           within = omega (arith, length-left input from, p .within);
           first = omega arith;
           counted = omega (arith, p .counted);
-          room = omega (arith, p .room, a .end, length-left input from);
+          room = omega (arith, p .room, length-left input from);
           said = p .said ++ recordLine number (recordTable bs);
           text = appended-more (omega (arith, p .room, p .text .end)) (p .text) a;
           rest = append-assoc (p .said) (recordLine number (recordTable bs)) _ ∙ ap (λ (t : List ℕ). p .said ++ t) (more e) ∙ p .rest;

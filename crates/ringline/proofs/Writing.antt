@@ -1,44 +1,16 @@
--- Texts that grow in a lent list: a byte in hex, one text after another; how long the lines are, and the parts that they are made of.
--- Assumes nothing.
-use mathlib.Core.Path.{_≡_, refl, ap, ap₂, _∙_}
+-- The lines of the program: how long they are, and the parts that they are made of. Assumes nothing.
+use mathlib.Core.Path.{_≡_, refl, ap, _∙_}
 use mathlib.Core.Bool.{Bool, true, false}
 use mathlib.Core.List.{List, [], _∷_, _++_, append-assoc}
-use Prim.Native.Nat.{ℕ, zero, suc, _+_, _-_, _/_, _%_, _<_, _≤_}
+use Prim.Native.Nat.{ℕ, zero, suc, _+_, _-_}
 use native.Mathlib.Omega.{arith}
-use lib.ListN.{length, set, length-set, length-append}
-use Rattle.definitions.specs.Ringline.{glyph, hex, decimal, labelText, endLine, frameLine, space, newline}
-use Rattle.ringline.specs.Line.{spaced, answerLine, lastLine}
-use Rattle.label.specs.Text.{Appended}
-use Rattle.label.proofs.Appending.{appended-byte, appended-more, appended-as}
-
--- the same place said otherwise
-pub appended-to : {l m s : List ℕ} {i j k : ℕ} → j ≡ k → Appended l i s m j → Appended l i s m k
-appended-to e a = rw (← e) a
-
--- the two digits of a byte, stored one after the other
-pub appended-hex : (l : List ℕ) (at b : ℕ) {x y : ℕ} → at + 2 ≤ length l → x ≡ glyph (b / 16) → y ≡ glyph (b % 16)
-    → Appended l at (hex (b ∷ [])) (set (set l at x) (at + 1) y) (at + 2)
-unfolding hex
-appended-hex l at b {x} {y} h p q =
-    let h₂ : at + 1 < length (set l at x) = simp length-set (omega arith) in
-    let e : at + 1 + 1 ≡ at + 2 = omega arith in
-    appended-as (ap₂ (λ (u v : ℕ). u ∷ v ∷ []) p q)
-    (appended-to e (appended-more (omega arith) (appended-byte l at x (omega arith)) (appended-byte (set l at x) (at + 1) y h₂)))
-
--- three texts one after another
-pub appended-three : {l m n o s t u : List ℕ} {i j k q : ℕ} → i ≤ length l → Appended l i s m j → Appended m j t n k → Appended n k u o q → Appended l i (s ++ (t ++ u)) o q
-appended-three {s = s} {t} {u} h a b c = appended-as (append-assoc s t u) (appended-more h (appended-more h a b) c)
-
--- four texts one after another
-pub appended-four : {l m n o p s t u v : List ℕ} {i j k q r : ℕ} → i ≤ length l → Appended l i s m j → Appended m j t n k → Appended n k u o q → Appended o q v p r → Appended l i (s ++ (t ++ (u ++ v))) p r
-appended-four {s = s} {t} {u} {v} h a b c d = appended-as (simp append-assoc) (appended-more h (appended-more h (appended-more h a b) c) d)
+use lib.ListN.{length, length-append}
+use Rattle.definitions.specs.Text.{decimal, hex, space, newline}
+use Rattle.definitions.specs.Ringline.{labelText, endLine, frameLine}
+use Rattle.records.specs.Spaced.{spaced}
+use Rattle.ringline.specs.Line.{answerLine, lastLine}
 
 -- ---- how long the lines are
-
--- a number and a space
-pub length-spaced : (n : ℕ) → length (spaced n) ≡ length (decimal n) + 1
-unfolding spaced
-length-spaced n = length-append (decimal n) _
 
 -- `end `, the number and the line's end
 pub length-endLine : (n : ℕ) → length (endLine n) ≡ length (decimal n) + 5

@@ -1,8 +1,6 @@
 // The program: the label of each table on standard input, a line a record.
 mod line;
-mod record;
 mod render;
-mod text;
 
 use render::MAX_INPUT;
 use render::render;

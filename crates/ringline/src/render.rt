@@ -5,16 +5,18 @@ ghost use Prim.Native.Nat.{_+_, _*_, _^_, _≤_, _<_};
 ghost use lib.ListN.{length, take};
 ghost use Rattle.io.specs.Counts.{Counts};
 ghost use Rattle.definitions.specs.Ringline as text;
-ghost use Rattle.label.specs.Text.{Appended};
+ghost use Rattle.definitions.specs.Records.{whole?, recordBytes, recordTable};
+ghost use Rattle.lent.specs.Appended.{Appended};
 ghost use Rattle.ringline.specs.Line.{lastLine, labelRoom};
 use crate::line::put_answer;
 use crate::line::put_end;
 use crate::line::put_frame;
-use crate::record::HEAD;
-use crate::record::record_bytes;
-use crate::record::whole;
-use crate::text::put_text;
 use label::label;
+use records::RECORD_HEAD;
+use records::atoms_of;
+use records::put_text;
+use records::record_bytes;
+use records::whole;
 
 // The most bytes of input that are answered.
 pub(crate) const MAX_INPUT: usize = 32768;
@@ -32,13 +34,14 @@ fn label_room() -> [u8; LABEL_ROOM]
 // The line of the record that a list starts with: its number has four digits at most, and there are seven bytes of room for
 // each byte of the record.
 fn put_record(number: u64, rest: &[u8], out: &mut [u8], at: usize) -> usize
-    requires { ⌜ (number < 10 ^ 4) × (text.whole? (now rest) ≡ true) × (at + 7 * text.recordBytes (now rest) ≤ length (now out)) ⌝ }
-    ensures { λ r. ⌜ Appended (now (out .entry)) at (text.recordLine number (text.recordTable (now (rest .entry)))) (now (out .exit)) r ⌝ }
+    requires { ⌜ (number < 10 ^ 4) × (whole? (now rest) ≡ true) × (at + 7 * recordBytes (now rest) ≤ length (now out)) ⌝ }
+    ensures { λ r. ⌜ Appended (now (out .entry)) at (text.recordLine number (recordTable (now (rest .entry)))) (now (out .exit)) r ⌝ }
+    ensures { λ r. ⌜ r ≤ at + 7 * recordBytes (now (rest .entry)) ⌝ }
 {
-    let atoms = rest[3] as u64;
+    let atoms = atoms_of(rest) as u64;
     let end = record_bytes(rest);
     let mut bytes = label_room();
-    let answer = label(atoms, &rest[HEAD..end], &mut bytes);
+    let answer = label(atoms, &rest[RECORD_HEAD..end], &mut bytes);
     put_answer(number, answer.number, &bytes, answer.count, out, at)
 }
 

@@ -3,9 +3,8 @@
 use mathlib.Core.Path.{_≡_, refl, sym, ap, subst, subst⁻¹, _∙_}
 use mathlib.Core.Logic.{_≢_}
 use mathlib.Core.Bool.{false}
-use mathlib.Core.List.{List, [], _∷_, map, map-append}
-use mathlib.Core.List.{List·Memᴰ as In, List·Memᴰ·head as here}
-use Prim.Native.Nat.{ℕ, _+_, _^_, _<_, _≤_}
+use mathlib.Core.List.{List, [], _∷_, map, map-append, List·Memᴰ as In, List·Memᴰ·head as here}
+use Prim.Native.Nat.{ℕ, _+_, _^_, _<_, _≤_, max}
 use native.Mathlib.Nat.{le-antisymm}
 use native.Mathlib.Omega.{arith}
 use lib.ListN.{length, take, getD, length-map, List·getD-eq-default}
@@ -14,32 +13,32 @@ use lib.Dec.{ltb}
 use borrow.Author.Tests.{ltb-true, ltb-false}
 use Rattle.sets.specs.Bits.{has, size, meet}
 use Rattle.sets.specs.Ring.{room}
-use Rattle.definitions.specs.Search.{sort, insert}
+use Rattle.sets.specs.Bond as bond
+use Rattle.definitions.specs.Table.{allSizes}
+use Rattle.definitions.specs.Search.{sort, insert, picked}
 use Rattle.definitions.specs.AllRings.{before}
 use Rattle.definitions.specs.Smallest.{chosen, taking}
 use Rattle.definitions.specs.Label.{occurs}
 use Rattle.definitions.proofs.Tests.{by}
 use Rattle.definitions.proofs.Lists.{length-listed, setOf-is, size-setOf, gather-step, gather-zero, gather-in}
-use Rattle.definitions.proofs.Sorting.{occurs-nil, occurs-append, length-sort}
+use Rattle.definitions.proofs.Sorting.{occurs-nil, occurs-append, length-sort, sort-in}
 use Rattle.spans.proofs.Spans.{span-in}
 use Rattle.spans.proofs.Choice.{span→sum}
 use Rattle.spans.proofs.Taking.{taking-nil, taking-keep, taking-length-le}
 use Rattle.spans.proofs.Apart.{taken-apart}
-use Rattle.basis.specs.Held.{picked}
-use Rattle.rings.specs.Found.{Appended}
-use Rattle.rings.specs.Gibbs.{combined, foundAt, foundIn}
-use Rattle.rings.specs.Sizes.{allSizes, Countable, Tallied}
-use Rattle.rings.specs.Elimination.{Spanned, Selected}
+use Rattle.lent.specs.Appended.{Appended}
+use Rattle.lent.proofs.Between.{appended-take}
+use Rattle.combining.specs.Gibbs.{combined, foundAt, foundIn}
+use Rattle.combining.proofs.Turns.{found-few}
+use Rattle.combining.proofs.Exactly.{combined-sum}
+use Rattle.ordering.specs.Sizes.{Countable, Tallied}
+use Rattle.ordering.proofs.Sizing.{occurs-le, tallied-higher}
+use Rattle.choosing.specs.Elimination.{Choosable, Selected}
 use Rattle.rings.specs.Tally.{mostInOne, mostInAll, Alone, Separate}
-use Rattle.rings.proofs.Turns.{found-few}
-use Rattle.rings.proofs.Exactly.{combined-sum}
-use Rattle.rings.proofs.Sizing.{occurs-le}
-use Rattle.rings.proofs.Perceiving.{all-found-most}
-
--- ---- what is found in an assembly
+use Rattle.perception.proofs.Perceiving.{all-found-most}
 
 -- as many basis rings are picked as the set of places has
-length-picked : (rings : List ℕ) (s : ℕ) → s < 2 ^ room → length (picked rings s) ≡ size s
+pub length-picked : (rings : List ℕ) (s : ℕ) → s < 2 ^ room → length (picked rings s) ≡ size s
 length-picked rings s h =
     length-listed room (has s) (λ i. getD rings i 0) ∙ sym (size-setOf room (has s)) ∙ ap size (sym (setOf-is room (has s) s h (λ k l. refl)))
 
@@ -77,7 +76,11 @@ tallied-none start = record {
   none = λ z l. occurs-nil z;
 }
 
-module _ {sets start : List ℕ} {top : ℕ} {counts : List ℕ} {mid : ℕ} (t : Tallied sets start top counts mid) where
+-- what is no less than a possible size is no less than 0
+tallied-lowered : {sets start : List ℕ} {top : ℕ} {counts : List ℕ} {r : ℕ} → top ≤ allSizes → Tallied sets start top counts r → Tallied sets start 0 counts r
+tallied-lowered h t = record { long = t .long; told = t .told; higher = omega arith; within = λ l. t .within h; none = t .none }
+
+module _ {sets start counts : List ℕ} {r : ℕ} (t : Tallied sets start 0 counts r) where
   -- of so many that can be counted these are taken away, and the others still can
   tallied-countable : {m k : ℕ} → Countable start m → length sets + k ≤ m → Countable counts k
   tallied-countable {m} {k} c h = record {
@@ -87,103 +90,108 @@ module _ {sets start : List ℕ} {top : ℕ} {counts : List ℕ} {mid : ℕ} (t 
         (λ l. omega (arith, List·getD-eq-default {A = ℕ} counts 0 {n = z} (omega (arith, ltb-false z allSizes l, t .long, c .long)), c .fits z));
   }
 
-  module _ {more others counts′ : List ℕ} {r : ℕ} (u : Tallied more others mid counts′ r) where
-    -- what comes back for more sets is above the sizes of these too
-    tallied-raised : Tallied sets start top counts r
-    tallied-raised = record {
-      long = t .long;
-      told = t .told;
-      higher = omega (arith, t .higher, u .higher);
-      within = λ l. u .within (t .within l);
-      none = λ z l. t .none z (omega (arith, u .higher));
-    }
-
-    -- and no less than what was there before both
-    tallied-lowered : Tallied more others top counts′ r
-    tallied-lowered = record {
-      long = u .long;
-      told = u .told;
-      higher = omega (arith, t .higher, u .higher);
-      within = λ l. u .within (t .within l);
-      none = u .none;
-    }
-
   -- more sets are counted on top
-  tallied-more : {more both counts′ : List ℕ} {r : ℕ} → Tallied more counts mid counts′ r
-      → ((z : ℕ) → occurs z (map size both) ≡ occurs z (map size sets) + occurs z (map size more)) → Tallied both start top counts′ r
+  tallied-more : {more both counts′ : List ℕ} → Tallied more counts 0 counts′ r
+      → ((z : ℕ) → occurs z (map size both) ≡ occurs z (map size sets) + occurs z (map size more)) → Tallied both start 0 counts′ r
   tallied-more u e = record {
     long = u .long ∙ t .long;
     told = λ z l. omega (arith, u .told z l, t .told z l, e z);
-    higher = omega (arith, t .higher, u .higher);
-    within = λ l. u .within (t .within l);
-    none = λ z l. omega (arith, e z, u .none z l, t .none z (omega (arith, u .higher)));
+    higher = omega arith;
+    within = u .within;
+    none = λ z l. omega (arith, e z, u .none z l, t .none z l);
   }
 
 -- ---- the sets of a list and what is taken of them in order
 
 -- both are counted
-abbrev pub Both : List ℕ → List ℕ → List ℕ → ℕ → List ℕ → List ℕ → ℕ → Type 0
-Both sets all₀ smallest₀ top all smallest r = Tallied sets all₀ top all r × Tallied (taking [] (sort before sets)) smallest₀ top smallest r
+abbrev pub Both : List ℕ → List ℕ → List ℕ → List ℕ → List ℕ → ℕ → Type 0
+Both sets all₀ smallest₀ all smallest r = Tallied sets all₀ 0 all r × Tallied (taking [] (sort before sets)) smallest₀ 0 smallest r
+
+-- with a higher bound
+both-higher : {sets all₀ smallest₀ all smallest : List ℕ} {r : ℕ} (r′ : ℕ) → r ≤ r′ → r′ ≤ allSizes → Both sets all₀ smallest₀ all smallest r
+    → Both sets all₀ smallest₀ all smallest r′
+both-higher r′ h few (t, u) = (tallied-higher r′ h few t, tallied-higher r′ h few u)
 
 -- the sets stand at the start of a list and are counted
-module _ {sets start found : List ℕ} {n : ℕ} (g : Appended sets start 0 found n) {all₀ all smallest₀ smallest : List ℕ} {top mid r : ℕ}
-    (t : Tallied (take n found) all₀ top all mid) where
-  -- then what is taken of them is counted
-  both-counted : {taken : List ℕ} → taken ≡ taking [] (sort before sets) → Tallied taken smallest₀ mid smallest r → Both sets all₀ smallest₀ top all smallest r
-  both-counted e u = (
-    subst (λ l. Tallied l all₀ top all r) (g .list) (tallied-raised t u),
-    subst (λ l. Tallied l smallest₀ top smallest r) e (tallied-lowered t u),
-  )
+module _ {sets start found : List ℕ} {n : ℕ} (g : Appended start 0 sets found n) where
+  -- they are its first
+  first : take n found ≡ sets
+  first = appended-take (omega arith) g
 
-  -- of one set it is that one
-  pub both-one : n ≡ 1 → ((x : ℕ) → In x sets → x ≢ 0) → Tallied (take n found) smallest₀ mid smallest r → Both sets all₀ smallest₀ top all smallest r
-  both-one e some u = both-counted (g .list ∙ sym (taken-alone sets (omega (arith, g .count)) some)) u
+  module _ {all₀ all smallest₀ smallest : List ℕ} {mid r : ℕ} (t : Tallied (take n found) all₀ 0 all mid) where
+    -- then what is taken of them is counted
+    both-counted : {taken : List ℕ} → taken ≡ taking [] (sort before sets) → Tallied taken smallest₀ mid smallest r → Both sets all₀ smallest₀ all smallest r
+    both-counted e u =
+        let few : mid ≤ allSizes = t .within (omega arith) in (
+          subst (λ l. Tallied l all₀ 0 all r) first (tallied-higher r (u .higher) (u .within few) t),
+          subst (λ l. Tallied l smallest₀ 0 smallest r) e (tallied-lowered few u),
+        )
 
-  -- else it is chosen from them in order
-  pub both-chosen : {ordered lent taken : List ℕ} {k : ℕ} → ordered ≡ sort before (take n found) → Selected ordered lent taken k
-      → Tallied (take k taken) smallest₀ mid smallest r → Both sets all₀ smallest₀ top all smallest r
-  both-chosen e s u = both-counted (s .list ∙ ap (taking []) (e ∙ ap (sort before) (g .list))) u
+    -- of one set it is that one
+    pub both-one : n ≡ 1 → ((x : ℕ) → In x sets → x ≢ 0) → Tallied (take n found) smallest₀ mid smallest r → Both sets all₀ smallest₀ all smallest r
+    both-one e some u = both-counted (first ∙ sym (taken-alone sets (omega (arith, g .end)) some)) u
+
+    -- else it is chosen from them in order
+    pub both-chosen : {ordered lent taken : List ℕ} {k : ℕ} → ordered ≡ sort before (take n found) → Selected ordered lent taken k
+        → Tallied (take k taken) smallest₀ mid smallest r → Both sets all₀ smallest₀ all smallest r
+    both-chosen e s u = both-counted (s .list ∙ ap (taking []) (e ∙ ap (sort before) first)) u
 
 -- ---- one assembly
 
--- a list of so many words has room for what is found in it
+-- a list of so many sets has room for what is found in it
 pub alone-room : {rings : List ℕ} {places m : ℕ} → Alone rings places m → 0 + length (combined (picked rings places)) ≤ m
 alone-room {rings} {places} h = omega (arith, h .room, found-few rings places)
 
-module _ {rings : List ℕ} {places m : ℕ} (h : Alone rings places m) {start found : List ℕ} {n : ℕ} (g : Appended (combined (picked rings places)) start 0 found n) where
-  -- where it stands at the start of a list, any list of so many words is as long
+module _ {rings : List ℕ} {places m : ℕ} (h : Alone rings places m) {start found : List ℕ} {n : ℕ} (g : Appended start 0 (combined (picked rings places)) found n) where
+  -- where it stands at the start of a list, any list of so many sets is as long
   pub alone-within : {k : ℕ} → k ≡ m → n ≤ k
-  alone-within e = omega (arith, g .count, alone-room h)
+  alone-within e = omega (arith, g .end, alone-room h)
 
   -- it is no more than can be counted
   pub alone-few : n ≤ mostInOne
-  alone-few = omega (arith, g .count, found-few rings places, pow-mono (h .small))
+  alone-few = omega (arith, g .end, found-few rings places, pow-mono (h .small))
 
--- each set found is a sum of its basis rings
-pub alone-spanned : (rings : List ℕ) (places : ℕ) {want : ℕ} → places < 2 ^ room → want ≡ size places → Spanned want (combined (picked rings places))
-alone-spanned rings places l is = (picked rings places, length-picked rings places l ∙ sym is, combined-sum (picked rings places))
+  -- each set found is a sum of its basis rings, so a smallest basis can be chosen from them in order
+  pub alone-choosable : {ordered taken : List ℕ} {want : ℕ} → places < 2 ^ room → want ≡ size places → n ≤ length ordered → take n ordered ≡ sort before (take n found)
+      → length taken ≡ bond.room → Choosable ordered n want taken
+  alone-choosable b is within e lent =
+      let basis = picked rings places in
+      record {
+        within = within;
+        lent = lent;
+        few = omega (arith, is, h .small);
+        spanned = (
+          basis,
+          length-picked rings places b ∙ sym is,
+          λ x i. combined-sum basis x (sort-in before (combined basis) x .0 (subst (In x) (e ∙ ap (sort before) (first g)) i)),
+        );
+      }
 
 -- ---- one assembly after another
 
 -- the assemblies below a are counted
-pub record Counted (rings members : List ℕ) (n : ℕ) (all₀ smallest₀ : List ℕ) (all smallest : List ℕ) (top a : ℕ) : Type 0 where
+pub record CountedTo (rings members : List ℕ) (n : ℕ) (all₀ smallest₀ : List ℕ) (all smallest : List ℕ) (top a : ℕ) : Type 0 where
   pub within : a ≤ n
-  pub both : Both (foundIn rings members a) all₀ smallest₀ 0 all smallest top
+  pub both : Both (foundIn rings members a) all₀ smallest₀ all smallest top
 
 -- before the first
-pub counted-none : (rings members : List ℕ) (n : ℕ) (all smallest : List ℕ) → Counted rings members n all smallest all smallest 0 0
+pub counted-none : (rings members : List ℕ) (n : ℕ) (all smallest : List ℕ) → CountedTo rings members n all smallest all smallest 0 0
 counted-none rings members n all smallest = record {
   within = omega arith;
-  both = subst⁻¹ (λ l. Both l all smallest 0 all smallest 0) (gather-zero (foundAt rings members))
+  both = subst⁻¹ (λ l. Both l all smallest all smallest 0) (gather-zero (foundAt rings members))
       (tallied-none all, subst⁻¹ (λ l. Tallied l smallest 0 smallest 0) taken-nil (tallied-none smallest));
 }
 
+-- they are apart in lists that hold as many sets
+pub separate-as : {rings members : List ℕ} {n m k : ℕ} → k ≡ m → Separate rings members n m → Separate rings members n k
+separate-as {rings} {members} {n} e s = subst⁻¹ (Separate rings members n) e s
+
 module _ {rings members : List ℕ} {n m : ℕ} (s : Separate rings members n m) {a : ℕ} (l : a < n) where
   -- assembly a is one by itself
-  pub alone-at : {places k : ℕ} → places ≡ getD members a 0 → k ≡ m → Alone rings places k
-  alone-at {places} {k} is e = subst⁻¹ (λ p. Alone rings p k) is (subst⁻¹ (Alone rings (getD members a 0)) e (s .each a l))
+  pub alone-at : {places k : ℕ} → getD members a 0 ≡ places → k ≡ m → Alone rings places k
+  alone-at {places} {k} is e = subst (λ p. Alone rings p k) is (subst⁻¹ (Alone rings (getD members a 0)) e (s .each a l))
 
-  module _ {all₀ smallest₀ all smallest : List ℕ} {top : ℕ} (t : Counted rings members n all₀ smallest₀ all smallest top a) where
+  module _ {all₀ smallest₀ all smallest : List ℕ} {top : ℕ} (t : CountedTo rings members n all₀ smallest₀ all smallest top a) where
     -- what is found in this one is no more than can still be counted
     counted-few : length (foundIn rings members a) + mostInOne ≤ mostInAll
     counted-few = omega (arith, all-found-most rings members a (λ b h. s .each b (omega arith) .small), s .counted)
@@ -197,26 +205,32 @@ module _ {rings members : List ℕ} {n m : ℕ} (s : Separate rings members n m)
     countable-smallest c = tallied-countable (t .both .1) c (omega (arith, counted-few, taken-few (foundIn rings members a)))
 
     -- this one is counted
-    pub counted-more : {places : ℕ} {all′ smallest′ : List ℕ} {r : ℕ} → places ≡ getD members a 0
-        → Both (combined (picked rings places)) all smallest top all′ smallest′ r → Counted rings members n all₀ smallest₀ all′ smallest′ r (a + 1)
-    counted-more {places} {all′} {smallest′} {r} is u =
-        let old = foundIn rings members a in
-        let new = foundAt rings members a in
-        let (v, w) = subst (λ p. Both (combined (picked rings p)) all smallest top all′ smallest′ r) is u in
+    pub counted-more : {places : ℕ} {all′ smallest′ : List ℕ} {end r : ℕ} → getD members a 0 ≡ places → r ≡ max top end
+        → Both (combined (picked rings places)) all smallest all′ smallest′ end → CountedTo rings members n all₀ smallest₀ all′ smallest′ r (a + 1)
+    counted-more {places} {all′} {smallest′} {end} {r} is e u =
+        let low : r ≤ allSizes = omega (arith, t .both .0 .within (omega arith), u .0 .within (omega arith)) in
+        let (t₀, t₁) = both-higher r (omega arith) low (t .both) in
+        let (u₀, u₁) = both-higher r (omega arith) low (subst⁻¹ (λ p. Both (combined (picked rings p)) all smallest all′ smallest′ end) is u) in
         record {
           within = omega arith;
-          both = subst⁻¹ (λ l. Both l all₀ smallest₀ 0 all′ smallest′ r) (gather-step a (foundAt rings members)) (
-            tallied-more (t .both .0) v (λ z. ap (occurs z) (map-append size old new) ∙ occurs-append z (map size old) (map size new)),
-            tallied-more (t .both .1) w (taken-apart old new apart),
+          both = subst⁻¹ (λ l. Both l all₀ smallest₀ all′ smallest′ r) (gather-step a (foundAt rings members)) (
+            tallied-more t₀ u₀ (λ z. ap (occurs z) (map-append size old new) ∙ occurs-append z (map size old) (map size new)),
+            tallied-more t₁ u₁ (taken-apart old new apart),
           );
         }
       where
+        old : List ℕ
+        old = foundIn rings members a
+
+        new : List ℕ
+        new = foundAt rings members a
+
         -- each set found before is found in one assembly before, so it shares no bond with what is found in this one
         apart : (x y : ℕ) → In x (foundIn rings members a) → In y (foundAt rings members a) → meet x y ≡ false
         apart x y i j = let (b, h, k) = gather-in a (foundAt rings members) x .0 i in s .apart b a h l x y k j
 
 -- after the last all are counted
-pub counted-all : {rings members : List ℕ} {n : ℕ} {all₀ smallest₀ all smallest : List ℕ} {top a : ℕ} → Counted rings members n all₀ smallest₀ all smallest top a → n ≤ a
-    → Both (foundIn rings members n) all₀ smallest₀ 0 all smallest top
+pub counted-all : {rings members : List ℕ} {n : ℕ} {all₀ smallest₀ all smallest : List ℕ} {top a : ℕ} → CountedTo rings members n all₀ smallest₀ all smallest top a → n ≤ a
+    → Both (foundIn rings members n) all₀ smallest₀ all smallest top
 counted-all {rings} {members} {all₀ = all₀} {smallest₀} {all} {smallest} {top} t h =
-    subst (λ k. Both (foundIn rings members k) all₀ smallest₀ 0 all smallest top) (le-antisymm (t .within) h) (t .both)
+    subst (λ k. Both (foundIn rings members k) all₀ smallest₀ all smallest top) (le-antisymm (t .within) h) (t .both)

@@ -1,5 +1,4 @@
--- The rings counted by size, assembly by assembly.
--- Assumes nothing.
+-- The rings counted by size, assembly by assembly. Assumes nothing.
 use mathlib.Core.Path.{_≡_}
 use mathlib.Core.Logic.{_≢_}
 use mathlib.Core.Bool.{false}
@@ -9,8 +8,8 @@ use lib.ListN.{getD}
 use Rattle.sets.specs.Bits.{size, meet}
 use Rattle.definitions.specs.Table.{maxBonds}
 use Rattle.definitions.specs.Assembly.{maxAssembly}
-use Rattle.basis.specs.Held.{picked}
-use Rattle.rings.specs.Gibbs.{combined, foundAt}
+use Rattle.definitions.specs.Search.{picked}
+use Rattle.combining.specs.Gibbs.{combined, foundAt}
 
 -- no assembly has more sums of its basis rings
 abbrev pub mostInOne : ℕ
@@ -20,7 +19,7 @@ mostInOne = 2 ^ maxAssembly
 abbrev pub mostInAll : ℕ
 mostInAll = maxBonds * mostInOne
 
--- an assembly, given by the places of its basis rings: these are not too many, a list of m words has room for their sums, and nothing
+-- an assembly, given by the places of its basis rings: these are not too many, a list of m sets has room for their sums, and nothing
 -- that the combination finds in it is empty
 pub record Alone (rings : List ℕ) (places m : ℕ) : Type 0 where
   pub small : size places ≤ maxAssembly

@@ -1,22 +1,23 @@
 -- What a machine word of m digits does to the set that it holds, for any m: a shifted one, the test of a digit, a member put in, the next
--- member; and the bound of a set of bonds and of a set of basis rings. Assumes nothing.
-use mathlib.Core.Bool.{Bool, true, false, cond}
+-- member; the set with no bond; and the bound of a set of bonds and of a set of basis rings. Assumes nothing.
+use mathlib.Core.Bool.{Bool, true, false, cond, _&&_, xor, true≢false}
 use mathlib.Core.Logic.{_⊎_, inl, inr}
-use mathlib.Core.Path.{_≡_, sym, ap, _∙_}
+use mathlib.Core.Path.{_≡_, refl, sym, ap, _∙_}
 use Prim.Native.Nat.{ℕ, zero, suc, _+_, _-_, _*_, _/_, _%_, _^_, _≤_, _<_}
 use native.Mathlib.Nat.{le-refl, le-of-lt, le-add-right, lt-irrefl, lt-of-le-of-lt, pow-suc, add-sub-of-le, sub-lt-left-of-lt-add}
 use native.Mathlib.Omega.{arith}
-use borrow.Author.Tests.{eq-eqb, lt-ltb, le-ltb}
-use lib.Bits.{bitAnd, and-mask}
+use borrow.Author.Tests.{eqb-true, eq-eqb, lt-ltb, le-ltb}
+use lib.Bits.{bitAnd, bitXor, and-mask}
 use lib.Count.{trailingZeros, under}
 use lib.Dec.{eqb, lit<}
 use lib.Pow.{shl-exact, shr-le}
-use Rattle.sets.specs.Bits.{has, with, put, IsNext}
+use Rattle.sets.specs.Bits.{has, with, put, allBelow, Sub, sub, IsNext}
 use Rattle.sets.specs.Bond as bond
 use Rattle.sets.specs.Ring as ring
 use Rattle.sets.specs.declared.bond.BondSet.{BondSet}
 use Rattle.sets.specs.declared.ring.RingSet.{RingSet}
-use Rattle.sets.proofs.Laws.{parity, has-low, has-half, has-shr, has-zero, member-below}
+use Rattle.sets.proofs.Size.{sub-test, test-sub}
+use Rattle.sets.proofs.Laws.{has-and, has-xor, has-all-below, empty, parity, has-low, has-half, has-shr, has-zero, member-below}
 
 -- `1 << k`
 pub one-shl : (m k : ℕ) → k < m → (1 * 2 ^ k) % 2 ^ m ≡ 2 ^ k
@@ -34,6 +35,38 @@ put-below m s k h = ap (λ (t : Bool). cond t (with s k) s) (lt-ltb k m h)
 pub put-above : (m s k : ℕ) → m ≤ k → put m s k ≡ s
 unfolding put
 put-above m s k h = ap (λ (t : Bool). cond t (with s k) s) (le-ltb k m h)
+
+-- `s & (t ^ MAX) == 0`: nothing of s is outside t
+pub none-outside : (m s t : ℕ) → s < 2 ^ m → eqb (bitAnd s (bitXor t (allBelow m))) 0 ≡ sub s t
+unfolding xor
+none-outside m s t h = go (eqb rest 0) (sub s t) (λ e. sub-test s t (inside (eqb-true rest 0 e))) (λ e. eq-eqb rest 0 (empty rest (gone (test-sub s t e))))
+  where
+    rest : ℕ
+    rest = bitAnd s (bitXor t (allBelow m))
+
+    go : (a b : Bool) → (a ≡ true → b ≡ true) → (b ≡ true → a ≡ true) → a ≡ b
+    go true b f g = sym (f refl)
+    go false true f g = g refl
+    go false false f g = refl
+
+    told : (k : ℕ) → has s k ≡ true → has rest k ≡ xor (has t k) true
+    told k e =
+        has-and s (bitXor t (allBelow m)) k ∙ ap (λ (x : Bool). x && has (bitXor t (allBelow m)) k) e ∙ has-xor t (allBelow m) k
+        ∙ ap (xor (has t k)) (has-all-below m k ∙ lt-ltb k m (member-below m k h e))
+
+    by-table : (x : Bool) → xor x true ≡ false → x ≡ true
+    by-table true e = refl
+    by-table false e = absurd (true≢false e)
+
+    inside : rest ≡ 0 → Sub s t
+    inside e k i = by-table (has t k) (sym (told k i) ∙ ap (λ (x : ℕ). has x k) e ∙ has-zero k)
+
+    gone : Sub s t → (k : ℕ) → has rest k ≡ false
+    gone part k = cases (has s k) refl
+      where
+        cases : (x : Bool) → has s k ≡ x → has rest k ≡ false
+        cases true e = told k e ∙ ap (λ (x : Bool). xor x true) (part k e)
+        cases false e = has-and s (bitXor t (allBelow m)) k ∙ ap (λ (x : Bool). x && has (bitXor t (allBelow m)) k) e
 
 -- ---- the trailing zeros are the place of the lowest member
 
@@ -79,10 +112,16 @@ next-found m s from h p =
       none = λ k a b. from-on s from k a ∙ trailing-none m (s / 2 ^ from) (k - from) (sub-lt-left-of-lt-add a b);
     }
 
--- ---- the bound of a set of bonds, of a set of basis rings
+-- ---- the set with no bond; the bound of a set of bonds, of a set of basis rings
+
+pub no-bonds : bond.bits bond.noBonds ≡ 0
+no-bonds = refl
 
 pub bond-lt : (s : BondSet) → bond.Held s → bond.bits s < 2 ^ bond.room
 bond-lt s h = h
 
 pub ring-lt : (s : RingSet) → ring.Held s → ring.bits s < 2 ^ ring.room
 ring-lt s h = h
+
+pub no-rings : ring.bits ring.noRings ≡ 0
+no-rings = refl

@@ -1,5 +1,5 @@
 -- How many members a set has. Each law follows from `size-sum`. Assumes nothing.
-use mathlib.Core.Bool.{Bool, true, false, _&&_, _||_, xor, true≢false, and-true, and-false}
+use mathlib.Core.Bool.{Bool, true, false, _&&_, true≢false, and-true, and-false}
 use mathlib.Core.Path.{_≡_, refl, sym, ap, ap₂, _∙_}
 use Prim.Native.Nat.{ℕ, _+_, _*_, _/_, _%_, _^_, _≤_, _<_, min}
 use native.Mathlib.Nat.{mod-lt}
@@ -11,7 +11,7 @@ use lib.Count.{ones, ones-step, ones-cat}
 use lib.Dec.{eqb, lit<}
 use lib.Pow.{pow-pos}
 use Rattle.sets.specs.Bits.{has, Sub, sub, size, with, without}
-use Rattle.sets.proofs.Laws.{four, ext, empty, has-and, has-or, has-xor, has-pow, xor-assoc}
+use Rattle.sets.proofs.Laws.{four, ext, empty, has-and, has-pow, xor-assoc}
 
 pub size-zero : size 0 ≡ 0
 unfolding ones
@@ -46,28 +46,6 @@ size-pow k = ap size (let e : 2 ^ k ≡ 1 * 2 ^ k + 0 = omega arith in e) ∙ on
 pub size-disjoint : (a b : ℕ) → bitAnd a b ≡ 0 → size (bitOr a b) ≡ size a + size b
 size-disjoint a b e =
     omega (arith, ap size (or-disjoint a b e ∙ sym (xor-disjoint a b e)), size-sum a b, ap size e, size-zero)
-
-or-table : (x y : Bool) → x || y ≡ xor (xor x y) (x && y)
-unfolding xor
-or-table true true = refl
-or-table true false = refl
-or-table false true = refl
-or-table false false = refl
-
-apart-table : (x y : Bool) → xor x y && (x && y) ≡ false
-unfolding xor
-apart-table true true = refl
-apart-table true false = refl
-apart-table false true = refl
-apart-table false false = refl
-
-pub size-union : (a b : ℕ) → size (bitOr a b) + size (bitAnd a b) ≡ size a + size b
-size-union a b =
-    let split : bitOr a b ≡ bitXor (bitXor a b) (bitAnd a b)
-    = ext _ _ (λ k. simp (has-or, has-xor, has-and) (or-table (has a k) (has b k))) in
-    let apart : bitAnd (bitXor a b) (bitAnd a b) ≡ 0
-    = empty _ (λ k. simp (has-xor, has-and) (apart-table (has a k) (has b k))) in
-    omega (arith, ap size split, size-sum (bitXor a b) (bitAnd a b), ap size apart, size-zero, size-sum a b)
 
 -- ---- parts of a set
 
@@ -126,10 +104,6 @@ size-with s k h = omega (arith, size-disjoint s (2 ^ k) (and-pow-none s k h), si
 pub with-same : (s k : ℕ) → has s k ≡ true → with s k ≡ s
 unfolding with
 with-same s k h = omega (arith, or-add-and s (2 ^ k), and-pow s k h)
-
-pub size-without : (s k : ℕ) → has s k ≡ true → size (without s k) + 1 ≡ size s
-unfolding without
-size-without s k h = rw (and-pow s k h) (omega (arith, size-sum s (2 ^ k), ap size (and-pow s k h), size-pow k))
 
 pub without-same : (s k : ℕ) → has s k ≡ false → without s k ≡ s
 unfolding without

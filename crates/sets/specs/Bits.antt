@@ -26,10 +26,11 @@ size = ones
 unfoldable pub allBelow : ℕ → ℕ
 allBelow n = 2 ^ n - 1
 
--- s and k, s less k
+-- s with k as a member
 unfoldable pub with : ℕ → ℕ → ℕ
 with s k = bitOr s (2 ^ k)
 
+-- s without k
 unfoldable pub without : ℕ → ℕ → ℕ
 without s k = bitXor s (bitAnd s (2 ^ k))
 

@@ -1,5 +1,4 @@
--- "A bond set is one 64-bit word, bit k for bond k." What a BondSet stands for: the set of bonds, as a number.
--- Assumes nothing.
+-- What a BondSet stands for: the set of bonds, as a number. Its one word holds bond k as digit k. Assumes nothing.
 use Prim.Native.Nat.{ℕ, _<_, _^_}
 use Rattle.sets.specs.declared.bond.BondSet.{BondSet}
 

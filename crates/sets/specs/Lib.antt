@@ -2,4 +2,4 @@
 pub mod Bits
 pub mod Bond
 pub mod Ring
-pub mod Atom
+pub mod Lists

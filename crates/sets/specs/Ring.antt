@@ -1,11 +1,14 @@
--- 000's supersets, "sets whose members are rings". What a RingSet stands for: the set of basis rings, as a number.
--- Assumes nothing.
+-- What a RingSet stands for: the set of basis rings, as a number. In 000 such a set is a superset. Assumes nothing.
 use Prim.Native.Nat.{ℕ, _<_, _^_}
 use Rattle.sets.specs.declared.ring.RingSet.{RingSet}
 
 -- the set of basis rings that a RingSet stands for
 abbrev pub bits : RingSet → ℕ
 bits s = s .0
+
+-- the set with no basis ring
+abbrev pub noRings : RingSet
+noRings = record { 0 = 0 }
 
 -- the members are below this: LAST is one less
 abbrev pub room : ℕ

@@ -22,13 +22,6 @@ impl RingSet {
         RingSet(word::below(n))
     }
 
-    // The set whose rings are the digits of a word.
-    pub fn of_word(word: u64) -> RingSet
-        ensures { λ r. ⌜ bits r ≡ word ⌝ }
-    {
-        RingSet(word)
-    }
-
     // The set of ring k alone; the empty set where k is above LAST.
     pub fn only(k: usize) -> RingSet
         ensures { λ r. ⌜ bits r ≡ spec.put room 0 k ⌝ }

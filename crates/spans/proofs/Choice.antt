@@ -1,6 +1,5 @@
 -- Sums by choices: `SumOf` says by a list of choices which sets are summed. It is `Span`, and the test `sum?` decides it.
--- Independence is that no choice but that of none sums to the empty set; it is the same as that no set is a sum of others.
--- Assumes nothing.
+-- Independence is that no choice but that of none sums to the empty set; it is the same as that no set is a sum of others. Assumes nothing.
 use mathlib.Core.Path.{_≡_, refl, sym, ap, subst⁻¹, _∙_}
 use mathlib.Core.Logic.{_↔_, inl, inr}
 use mathlib.Core.Bool.{Bool, true, false, _||_, true≢false, or-true}
@@ -36,10 +35,6 @@ unfolding chosen
 span→sum (none e) = ([], refl, sym e)
 span→sum (skip s) = let (cs, l, e) = span→sum s in (false ∷ cs, ap suc l, e)
 span→sum {x = x} (add {v} s) = let (cs, l, e) = span→sum s in (true ∷ cs, ap suc l, ap (bitXor v) e ∙ xor-cancel v x)
-
--- the sums by choices are what the list spans
-pub sum-iff-span : (vs : List ℕ) (x : ℕ) → SumOf vs x ↔ Span vs x
-sum-iff-span vs x = (sum→span, span→sum)
 
 -- where the test passes, x is in the span
 test→span : (vs : List ℕ) (x : ℕ) → sum? vs x ≡ true → Span vs x

@@ -4,13 +4,14 @@
 -- member of a sum of kept sets has a kept set; what is left is kept at its lowest member. Assumes nothing.
 use mathlib.Core.Path.{_≡_, refl, sym, ap, ap₂, subst, subst₂, subst⁻¹, _∙_}
 use mathlib.Core.Logic.{_↔_, _≢_, _⊎_, inl, inr}
-use mathlib.Core.Bool.{true, false, xor}
-use mathlib.Core.List.{List, [], _∷_, _++_, List·Memᴰ·not-nil, Memᴰ·append-left}
-use mathlib.Core.List.{List·Memᴰ as In}
+use mathlib.Core.Bool.{Bool, true, false, xor}
+use mathlib.Core.List.{List, [], _∷_, _++_, List·Memᴰ·not-nil, Memᴰ·append-left, List·Memᴰ as In}
 use Prim.Native.Nat.{ℕ, suc, _+_, _^_, _≤_, _<_}
 use native.Mathlib.Decide.{decLt, ℕ-discrete}
 use native.Mathlib.Omega.{arith}
+use borrow.Author.Tests.{eqb-true, eqb-false}
 use lib.Bits.{bitXor, xor-self, xor-zero-r}
+use lib.Dec.{eqb}
 use lib.ListN.{length, getD, set, List·getD-eq-default}
 use lib.Seq.{getD-set-same, getD-set-other}
 use Rattle.sets.specs.Bits.{has, IsNext}
@@ -18,15 +19,11 @@ use Rattle.sets.proofs.Laws.{xor-assoc, has-xor, has-zero, has-above, empty}
 use Rattle.definitions.specs.Smallest.{SumOf}
 use Rattle.definitions.proofs.Tests.{clashes}
 use Rattle.definitions.proofs.Lists.{getD-in, in-getD, in-snoc, in-last}
+use Rattle.spans.specs.Elimination.{Lowest, Rows, Left, Remainder, Kept}
 use Rattle.spans.proofs.Spans.{Span, none, skip, add, span-zero, span-eq, span-in, span-sum, span-sub, span-trans, xor-cancel, xor-undo}
 use Rattle.spans.proofs.Choice.{sum→span, span→sum}
 
 -- ---- the lowest member
-
--- k is the lowest member of x
-pub record Lowest (x k : ℕ) : Type 0 where
-  pub member : has x k ≡ true
-  pub none-below : (j : ℕ) → j < k → has x j ≡ false
 
 -- a set has one lowest member
 pub lowest-unique : {x j k : ℕ} → Lowest x j → Lowest x k → j ≡ k
@@ -124,14 +121,6 @@ sum-lowest m (v ∷ vs) h {x} (add s) = go (ℕ-discrete v 0) (sum-lowest (suc m
 
 -- ---- what is left of a set x
 
--- at place k stands the empty set, or a set whose lowest member is k
-abbrev pub Rows : List ℕ → Type 0
-Rows kept = (k : ℕ) → getD kept k 0 ≢ 0 → Lowest (getD kept k 0) k
-
--- of x rest is left: the two differ by a sum of the sets vs
-abbrev pub Left : List ℕ → ℕ → ℕ → Type 0
-Left vs x rest = SumOf vs (bitXor x rest)
-
 -- at the start all of x is left
 pub left-start : (vs : List ℕ) (x : ℕ) → Left vs x x
 left-start vs x = span→sum (span-eq (sym (xor-self x)) (span-zero vs))
@@ -151,11 +140,6 @@ span-place l k = go (decLt k (length l))
 -- a kept set is subtracted: x and what is left still differ by a sum of kept sets
 pub left-step : (kept : List ℕ) (k x rest : ℕ) → Left kept x rest → Left kept x (bitXor rest (getD kept k 0))
 left-step kept k x rest l = left-less x rest (span-place kept k) l
-
--- what is left at the end: nothing, or a set with no kept set at its lowest member
-pub record Remainder (kept : List ℕ) (x rest : ℕ) : Type 0 where
-  pub left : Left kept x rest
-  pub free : (k : ℕ) → Lowest rest k → getD kept k 0 ≡ 0
 
 -- on the way: rest is left, and k is its lowest member, or m where nothing is left of members below m
 pub record Reducing (m : ℕ) (kept : List ℕ) (x rest k : ℕ) : Type 0 where
@@ -180,31 +164,31 @@ pub reducing-start : (m : ℕ) (kept : List ℕ) (x k : ℕ) → x < 2 ^ m → I
 reducing-start m kept x k b n = reducing m kept x x 0 k (left-start kept x) b (λ j l. absurd (omega arith)) n
 
 module _ {m : ℕ} {kept : List ℕ} {x rest k : ℕ} (r : Reducing m kept x rest k) where
-  -- a step: the kept set at k is subtracted, and the lowest member is looked for above k
-  pub reducing-step : Rows kept → k < m → getD kept k 0 ≢ 0 → {y j : ℕ} → y ≡ bitXor rest (getD kept k 0) → y < 2 ^ m → IsNext m y (k + 1) j
-      → Reducing m kept x y j
-  reducing-step rows h n {y} {j} e b next =
-      reducing m kept x y (k + 1) j
-      (subst⁻¹ (Left kept x) e (left-step kept k x rest (r .left)))
-      b
-      (λ i l. ap (λ (s : ℕ). has s i) e ∙ lowest-rises (r .lowest h) (rows k n) i l)
-      next
+  module _ (h : k < m) {v : ℕ} {t : Bool} (e : v ≡ getD kept k 0) (q : t ≡ eqb v 0) where
+    -- a step: the set kept at k is subtracted, and the lowest member is looked for above k
+    pub reducing-step : Rows kept → t ≡ false → {y j : ℕ} → y ≡ bitXor rest v → y < 2 ^ m → IsNext m y (k + 1) j → Reducing m kept x y j
+    reducing-step rows some {y} {j} d b next =
+        reducing m kept x y (k + 1) j
+        (subst⁻¹ (Left kept x) less (left-step kept k x rest (r .left)))
+        b
+        (λ i l. ap (λ (s : ℕ). has s i) less ∙ lowest-rises (r .lowest h) (rows k (λ z. eqb-false v 0 (sym q ∙ some) (e ∙ z))) i l)
+        next
+      where
+        less : y ≡ bitXor rest (getD kept k 0)
+        less = d ∙ ap (bitXor rest) e
 
-  -- the end where no set is kept at k
-  pub reducing-stop : k < m → getD kept k 0 ≡ 0 → Remainder kept x rest
-  reducing-stop h z = record { left = r .left; free = λ j l. ap (λ (i : ℕ). getD kept i 0) (lowest-unique l (r .lowest h)) ∙ z }
+    -- the end where no set is kept at k
+    pub reducing-stop : t ≡ true → Remainder kept x rest
+    reducing-stop gone = record {
+      left = r .left;
+      free = λ j l. ap (λ (i : ℕ). getD kept i 0) (lowest-unique l (r .lowest h)) ∙ sym e ∙ eqb-true v 0 (sym q ∙ gone);
+    }
 
   -- the end where nothing is left
-  pub reducing-end : m ≤ k → (rest ≡ 0) × Remainder kept x rest
-  reducing-end h = (r .nothing h, record { left = r .left; free = λ j l. absurd (lowest-some l (r .nothing h)) })
+  pub reducing-end : m ≤ k → Remainder kept x rest
+  reducing-end h = record { left = r .left; free = λ j l. absurd (lowest-some l (r .nothing h)) }
 
 -- ---- what is kept
-
--- kept has at place k the empty set or a set whose lowest member is k, and spans what the sets taken span
-pub record Kept (kept taken : List ℕ) : Type 0 where
-  pub rows : Rows kept
-  pub up : (v : ℕ) → In v taken → SumOf kept v
-  pub down : (k : ℕ) → SumOf taken (getD kept k 0)
 
 -- what holds at each place holds of each set of a list
 each-place : (P : ℕ → Type 0) (l : List ℕ) → ((k : ℕ) → P (getD l k 0)) → (v : ℕ) → In v l → P v

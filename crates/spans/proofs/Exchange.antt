@@ -2,16 +2,13 @@
 -- pivot: it is dropped, and added to the other sums that need that set, so that none needs it any more. Assumes nothing.
 use mathlib.Core.Path.{_≡_, refl, sym, ap}
 use mathlib.Core.Logic.{_⊎_, inl, inr}
-use mathlib.Core.List.{List, [], _∷_, List·Memᴰ·not-nil}
-use mathlib.Core.List.{List·Memᴰ as In, List·Memᴰ·head as here, List·Memᴰ·tail as there}
+use mathlib.Core.List.{List, [], _∷_, List·Memᴰ·not-nil, List·Memᴰ as In, List·Memᴰ·head as here, List·Memᴰ·tail as there}
 use Prim.Native.Nat.{ℕ, suc, _≤_}
 use native.Mathlib.Nat.{le-antisymm}
 use native.Mathlib.Omega.{arith}
 use lib.ListN.{length}
 use lib.Bits.{bitXor}
-use Rattle.definitions.specs.Smallest.{SumOf}
 use Rattle.spans.proofs.Spans.{Span, none, skip, add, Indep, empty, more, each, span-zero, span-in, span-eq, span-sum, span-trans, xor-cross, xor-undo}
-use Rattle.spans.proofs.Choice.{NoneOfOthers, others-iff-indep, sum→span}
 
 -- ws with the first set v eliminated by a pivot, which is dropped
 record Pivoted (v : ℕ) (vs ws : List ℕ) : Type 0 where
@@ -63,10 +60,6 @@ exchange (v ∷ vs) ws h d =
       | inl all ↦ (let l = exchange vs ws all d in omega arith)
       | inr p ↦ (let l = exchange vs (p .list) (p .low) (p .indep) in omega (arith, p .long))
     ]
-
--- a list of sums of vs, none of which is a sum of others, is no longer than vs
-pub exchange-bound : (vs ws : List ℕ) → ((x : ℕ) → In x ws → SumOf vs x) → NoneOfOthers ws → length ws ≤ length vs
-exchange-bound vs ws h d = exchange vs ws (λ x i. sum→span (h x i)) (others-iff-indep ws .0 d)
 
 -- two independent lists that span each other are equally long
 pub same-length : (us vs : List ℕ) → Indep us → Indep vs → ((x : ℕ) → In x us → Span vs x) → ((x : ℕ) → In x vs → Span us x) → length us ≡ length vs

@@ -1,8 +1,7 @@
 -- Two rising lists that a map carries to each other, which keeps sums and weights and is one-to-one on what they span, have as many
 -- taken sets of each weight. Assumes nothing.
 use mathlib.Core.Path.{_≡_, refl, sym, ap, ap₂, subst, subst⁻¹, _∙_}
-use mathlib.Core.List.{List, [], _∷_, map, map-map, List·Memᴰ·not-nil}
-use mathlib.Core.List.{List·Memᴰ as In, List·Memᴰ·head as here, List·Memᴰ·tail as there}
+use mathlib.Core.List.{List, [], _∷_, map, map-map, List·Memᴰ·not-nil, List·Memᴰ as In, List·Memᴰ·head as here, List·Memᴰ·tail as there}
 use Prim.Native.Nat.{ℕ, _≤_}
 use native.Mathlib.Nat.{le-antisymm}
 use lib.ListN.{length, length-map}
@@ -117,12 +116,3 @@ module _ (w u f : ℕ → ℕ) (xs ys : List ℕ) (c : Carries w u f xs ys) (rx 
   -- and t
   pub invariant-occurs : (t : ℕ) → occurs t (map w (taking [] xs)) ≡ occurs t (map u (taking [] ys))
   invariant-occurs = same-occurs (map w (taking [] xs)) (map u (taking [] ys)) invariant-upto
-
--- the order of sets of one weight does not matter, nor does it how often a set stands there
-pub invariant-order : (w : ℕ → ℕ) (xs ys : List ℕ) → Rising w xs → Rising w ys
-    → ((x : ℕ) → In x xs → In x ys) → ((y : ℕ) → In y ys → In y xs)
-    → (t : ℕ) → occurs t (map w (taking [] xs)) ≡ occurs t (map w (taking [] ys))
-invariant-order w xs ys rx ry h k =
-    invariant-occurs w w (λ x. x) xs ys
-    (record { additive = λ x y. refl; kernel = λ x s e. e; weight = λ x i. refl; into = h; onto = λ y i. (y, k y i, refl) })
-    rx ry

@@ -2,8 +2,7 @@
 -- sums of sets of the list no heavier than themselves. So it weighs no more than any other such basis, and one that weighs as
 -- much has as many sets of each weight. Assumes nothing.
 use mathlib.Core.Path.{_≡_, sym, subst, subst₂, _∙_}
-use mathlib.Core.List.{List, [], _++_, append-nil, map}
-use mathlib.Core.List.{List·Memᴰ as In, List·Memᴰ·head as here, List·Memᴰ·tail as there, Memᴰ·append-left, Memᴰ·append-right}
+use mathlib.Core.List.{List, [], _++_, append-nil, map, List·Memᴰ as In, List·Memᴰ·head as here, List·Memᴰ·tail as there, Memᴰ·append-left, Memᴰ·append-right}
 use Prim.Native.Nat.{ℕ, _≤_}
 use native.Mathlib.Nat.{le-refl, le-trans, le-antisymm}
 use lib.Dec.{leb}
@@ -65,10 +64,6 @@ module _ (w : ℕ → ℕ) where
   pub basis-of : (xs bs : List ℕ) → Indep bs → ((b : ℕ) → In b bs → In b xs) → ((x : ℕ) → In x xs → Span bs x) → Basis xs bs
   basis-of xs bs d sub h = record { indep = d; reached = λ b i. in-reached xs b (sub b i); spans = h }
 
-  -- what is taken is a basis
-  pub taking-basis : (xs : List ℕ) → Basis xs (taking [] xs)
-  taking-basis xs = basis-of xs (taking [] xs) (taking-indep xs) (taking-in xs) (taking-holds xs)
-
   -- each set that xs reaches is a sum of those taken
   reached-holds : (xs : List ℕ) (b : ℕ) → Reached xs b → Span (taking [] xs) b
   reached-holds xs b r = span-trans (λ x i. taking-holds xs x (from-light (w b) xs x i .0)) r
@@ -114,14 +109,3 @@ module _ (w : ℕ → ℕ) where
       -- and as many of each weight
       pub lightest-occurs : total (map w bs) ≤ total (map w (taking [] xs)) → (t : ℕ) → occurs t (map w (taking [] xs)) ≡ occurs t (map w bs)
       lightest-occurs l = same-occurs (map w (taking [] xs)) (map w bs) (lightest-upto l)
-
-    -- what is taken is a lightest basis
-    pub taking-lightest : Lightest xs (taking [] xs)
-    taking-lightest = record { basis = taking-basis xs; least = taking-least }
-
-    -- any two lightest bases have as many sets of each weight
-    pub lightest-alike : (bs cs : List ℕ) → Lightest xs bs → Lightest xs cs → (t : ℕ) → occurs t (map w bs) ≡ occurs t (map w cs)
-    lightest-alike bs cs b c t = sym (like bs b) ∙ like cs c
-      where
-        like : (ds : List ℕ) → Lightest xs ds → occurs t (map w (taking [] xs)) ≡ occurs t (map w ds)
-        like ds d = lightest-occurs ds (d .basis) (d .least (taking [] xs) (taking-basis xs)) t

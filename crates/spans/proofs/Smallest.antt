@@ -3,8 +3,7 @@
 -- basis. Assumes nothing.
 use mathlib.Core.Path.{_≡_, sym, _∙_}
 use mathlib.Core.Logic.{inl}
-use mathlib.Core.List.{List, [], map}
-use mathlib.Core.List.{List·Memᴰ as In}
+use mathlib.Core.List.{List, [], map, List·Memᴰ as In}
 use Prim.Native.Nat.{ℕ, _≤_}
 use borrow.Author.Tests.{leb-false}
 use lib.Dec.{leb}
@@ -18,7 +17,6 @@ use Rattle.definitions.proofs.Tests.{clashes, not-failed}
 use Rattle.definitions.proofs.Sorting.{Sorted, sorted-none, sorted-more, SortedWeak, weak-none, weak-more, sorted-weak, before-order, before-reads}
 use Rattle.spans.proofs.Choice.{NoneOfOthers, others-iff-indep, sum→span, span→sum}
 use Rattle.spans.proofs.Taking.{taking-in, taking-indep, taking-holds}
-use Rattle.spans.proofs.Counts.{light}
 use Rattle.spans.proofs.Lightest.{Rising, Basis, basis-of, basis-length, taking-least, lightest-occurs}
 
 -- a list in the order of all rings is in rising size, with repeats
@@ -68,17 +66,6 @@ module _ (xs : List ℕ) (rising : Rising size xs) where
   -- no basis has a smaller total of sizes
   pub taken-least-total : (bs : List ℕ) → BasisOf xs bs → total (map size (taking [] xs)) ≤ total (map size bs)
   taken-least-total bs b = taking-least size xs rising bs (as-basis b)
-
-  -- nor has any whose sets are sums of sets of the list no larger than themselves
-  pub taken-least-of-sums : (bs : List ℕ) → NoneOfOthers bs → ((b : ℕ) → In b bs → SumOf (light size (size b) xs) b) → ((x : ℕ) → In x xs → SumOf bs x)
-      → total (map size (taking [] xs)) ≤ total (map size bs)
-  taken-least-of-sums bs d reached spans =
-      taking-least size xs rising bs
-      (record { indep = others-iff-indep bs .0 d; reached = λ b i. sum→span (reached b i); spans = λ x i. sum→span (spans x i) })
-
-  -- what is taken is a smallest basis
-  pub taken-smallest : SmallestOf xs (taking [] xs)
-  taken-smallest = record { basis = taken-basis xs; least = taken-least-total }
 
   -- every smallest basis has as many sets of each size
   pub taken-sizes-unique : (bs : List ℕ) → SmallestOf xs bs → (t : ℕ) → occurs t (map size bs) ≡ occurs t (map size (taking [] xs))

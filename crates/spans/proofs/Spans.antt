@@ -1,8 +1,7 @@
 -- The sets that a list of sets spans: the sums of some of them. `Span` says so by the list's first set, for proofs by induction;
 -- lists of which no set is a sum of later ones. Assumes nothing.
 use mathlib.Core.Path.{_≡_, refl, sym, ap, ap₂, subst, subst⁻¹, _∙_}
-use mathlib.Core.List.{List, [], _∷_}
-use mathlib.Core.List.{List·Memᴰ as In, List·Memᴰ·head as here, List·Memᴰ·tail as there}
+use mathlib.Core.List.{List, [], _∷_, List·Memᴰ as In, List·Memᴰ·head as here, List·Memᴰ·tail as there}
 use Prim.Native.Nat.{ℕ}
 use lib.Bits.{bitXor, xor-comm, xor-self, xor-zero-r}
 use Rattle.sets.proofs.Laws.{xor-assoc}

@@ -11,7 +11,7 @@ use lib.ListN.{length, take, drop, getD, take-append-drop, length-append}
 use lib.Seq.{take-suc}
 use Rattle.definitions.specs.Smallest.{SumOf, sum?, taking}
 use Rattle.definitions.proofs.Tests.{by}
-use Rattle.spans.proofs.Spans.{Span, Indep, empty, more, span-in, span-eq, span-sub, span-trans}
+use Rattle.spans.proofs.Spans.{Span, Indep, empty, more, span-in, span-eq, span-sub}
 use Rattle.spans.proofs.Choice.{sum→span, span→sum, sum?-span, sum?-none, from-middle, to-middle, sub-in, indep-front}
 use Rattle.spans.proofs.Exchange.{exchange}
 
@@ -110,10 +110,6 @@ taking-indep xs = subst Indep (append-nil (taking [] xs)) (run-indep (run [] xs)
 -- each set of the list is a sum of sets taken
 pub taking-holds : (xs : List ℕ) (x : ℕ) → In x xs → Span (taking [] xs) x
 taking-holds xs x i = span-end (taking [] xs) x .0 (run-span (run [] xs) x i)
-
--- what is taken spans what the list spans
-pub taking-span : (xs : List ℕ) (x : ℕ) → Span (taking [] xs) x ↔ Span xs x
-taking-span xs x = (span-sub (taking-in xs), span-trans (taking-holds xs))
 
 -- what is taken of a list is the beginning of what is taken of a longer one
 pub taking-prefix : (xs zs : List ℕ) → (ws : List ℕ) × (taking [] (xs ++ zs) ≡ taking [] xs ++ ws)

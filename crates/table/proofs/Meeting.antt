@@ -1,30 +1,28 @@
--- The rows of an accepted table: its bytes fit the array and the sets, each turn over a bond adds it to the rows of its two atoms, and
--- no bond meets an atom from the count on. Assumes nothing.
+-- The rows of an accepted table, for each atom the set of the bonds so far that meet it: the bytes fit the array and the sets, and each
+-- turn over a bond adds it to the rows of its two atoms. Assumes nothing.
 use mathlib.Core.Path.{_≡_, refl, sym, ap, _∙_}
-use mathlib.Core.Bool.{Bool, true, false, _&&_, _||_, cond, or-true}
+use mathlib.Core.Bool.{Bool, true, false, _||_, cond, or-true}
 use mathlib.Core.List.{List}
 use Prim.Native.Nat.{ℕ, _+_, _*_, _/_, _%_, _≤_, _<_}
-use native.Mathlib.Nat.{le-antisymm}
 use native.Mathlib.Omega.{arith}
 use lib.ListN.{length, getD, set, length-set}
 use lib.Seq.{getD-set-same, getD-set-other}
-use lib.Dec.{eqb, ltb}
-use borrow.Author.Tests.{eqb-true, eqb-false, ne-eqb, ltb-true}
+use lib.Dec.{eqb}
+use borrow.Author.Tests.{eqb-true, eqb-false}
 use Rattle.sets.specs.Bits.{has, with, put}
 use Rattle.sets.specs.Bond.{bits, room, noBonds}
 use Rattle.sets.specs.declared.bond.BondSet.{BondSet}
 use Rattle.sets.proofs.Machine.{put-below}
-use Rattle.sets.proofs.Laws.{has-with, empty}
+use Rattle.sets.proofs.Laws.{has-with}
 use Rattle.sets.proofs.Size.{with-same}
 use Rattle.definitions.specs.Search.{setOf}
-use Rattle.definitions.specs.Table.{Table, bonds, tail, head, meets?, maxAtoms, refusal}
+use Rattle.definitions.specs.Table.{Table, tail, head, meets?, maxAtoms}
 use Rattle.definitions.proofs.Tests.{by, eqb-self}
-use Rattle.definitions.proofs.Lists.{has-setOf, setOf-skip, setOf-take}
-use Rattle.definitions.proofs.Refusals.{EvenBytes, FewBonds, AllInside, Valid, accepted}
+use Rattle.definitions.proofs.Lists.{setOf-skip, setOf-take}
+use Rattle.definitions.proofs.Refusals.{EvenBytes, FewBonds, AllInside, Valid}
 use Rattle.table.specs.Ends.{bondsAlone, Fitting}
-use Rattle.table.specs.Row.{rowOf}
 
--- a table whose bonds name atoms below the count has at most 64 bonds, each between atoms below 64
+-- a table whose bonds are few and name atoms below the count fits
 pub inside-fitting : {M : Table} → EvenBytes M → M .atoms ≤ maxAtoms → FewBonds M → AllInside M → Fitting (M .bytes)
 inside-fitting {M} even few-atoms few-bonds inside = record { few = few-bonds; ends = ends }
   where
@@ -39,25 +37,6 @@ inside-fitting {M} even few-atoms few-bonds inside = record { few = few-bonds; e
 pub valid-fitting : {M : Table} → Valid M → Fitting (M .bytes)
 valid-fitting v = inside-fitting (v .even) (v .few-atoms) (v .few-bonds) (v .inside)
 
--- and one that the check accepts
-pub accepted-fitting : (M : Table) → refusal M ≡ 0 → Fitting (M .bytes)
-accepted-fitting M e = valid-fitting (accepted M .0 e)
-
--- ---- what a row is
-
--- bond k is in row a exactly where it is a bond that meets atom a
-pub has-row : (M : Table) (a k : ℕ) → has (rowOf M a) k ≡ ltb k (bonds M) && meets? M a k
-has-row M a k = has-setOf (bonds M) (meets? M a) k
-
--- the rows from the atom count on are empty
-pub row-outside : {M : Table} → Valid M → (a : ℕ) → M .atoms ≤ a → rowOf M a ≡ 0
-row-outside {M} v a h =
-    empty (rowOf M a) (λ k.
-    has-row M a k
-    ∙ by (ltb k (bonds M))
-    (λ e. rw (e, ne-eqb (tail M k) a (omega (arith, v .inside k (ltb-true k _ e))), ne-eqb (head M k) a (omega (arith, v .inside k (ltb-true k _ e)))))
-    (λ e. rw e))
-
 -- ---- the rows in an array, by the bonds below k
 
 -- each row holds the bonds below k that meet its atom
@@ -70,10 +49,6 @@ pub record Rowed (bs : List ℕ) (rows : List BondSet) (k : ℕ) : Type 0 where
 pub rowed-none : (bs : List ℕ) (rows : List BondSet) → length rows ≡ maxAtoms → ((a : ℕ) → a < maxAtoms → getD rows a noBonds ≡ noBonds) → Rowed bs rows 0
 unfolding setOf
 rowed-none bs rows long empty = record { within = omega arith; long = long; row = λ a h. ap bits (empty a h) }
-
--- after the last bond each row holds all bonds that meet its atom
-pub rowed-all : {bs : List ℕ} {rows : List BondSet} {k : ℕ} → Rowed bs rows k → length bs / 2 ≤ k → (a : ℕ) → a < maxAtoms → bits (getD rows a noBonds) ≡ rowOf (bondsAlone bs) a
-rowed-all {bs} t l a h = t .row a h ∙ ap (λ (i : ℕ). setOf i (meets? (bondsAlone bs) a)) (le-antisymm (t .within) l)
 
 -- a row and bond k, where bond k is added
 abbrev and-bond : ℕ → ℕ → Bool → ℕ
@@ -99,7 +74,7 @@ added rows k i x below inside e a =
 
 -- bond k is added to the row of i, as x, and then to that of j, as y
 module _ {bs : List ℕ} {rows : List BondSet} {k : ℕ} (t : Rowed bs rows k) (f : Fitting bs) (l : k < length bs / 2)
-    {i j : ℕ} {x y : BondSet} (ei : i ≡ getD bs (2 * k) 0) (ej : j ≡ getD bs (2 * k + 1) 0) (hi : i < maxAtoms) (hj : j < maxAtoms)
+    {i j : ℕ} {x y : BondSet} (ei : (i ≡ tail (bondsAlone bs) k) × (i < maxAtoms)) (ej : (j ≡ head (bondsAlone bs) k) × (j < maxAtoms))
     (ex : bits x ≡ put room (bits (getD rows i noBonds)) k) (ey : bits y ≡ put room (bits (getD (set rows i x) j noBonds)) k) where
   -- a row changes where it is that of one of the two
   both : (a : ℕ) → bits (getD (set (set rows i x) j y) a noBonds) ≡ and-bond k (bits (getD rows a noBonds)) (eqb i a || eqb j a)
@@ -113,5 +88,5 @@ module _ {bs : List ℕ} {rows : List BondSet} {k : ℕ} (t : Rowed bs rows k) (
   rowed-more = record {
     within = omega arith;
     long = simp length-set (t .long);
-    row = λ a h. both a ∙ rw (t .row a h, ei, ej) (setOf-more (meets? (bondsAlone bs) a) k);
+    row = λ a h. both a ∙ rw (t .row a h, ei .0, ej .0) (setOf-more (meets? (bondsAlone bs) a) k);
   }

@@ -1,57 +1,43 @@
--- The refusals END, SELF and TWICE and acceptance as the check tells them: the tests on numbers have failed, each test over the bonds
--- gave its answer, and no later one was made. Assumes nothing.
+-- The tests of a table as the code tries them, one after another: those before place i have failed. Where the next one passes its number is
+-- given, and 0 where all fail. Assumes nothing.
 use mathlib.Core.Path.{_≡_, sym, _∙_}
 use mathlib.Core.Bool.{Bool, true, false}
-use Prim.Native.Nat.{_%_}
+use Prim.Native.Nat.{ℕ, suc, _<_}
 use native.Mathlib.Omega.{arith}
-use lib.ListN.{length, drop}
-use lib.Dec.{leb}
-use borrow.Author.Tests.{ne-eqb, le-ltb, leb-false}
-use Rattle.definitions.specs.Search.{some?}
-use Rattle.definitions.specs.Table.{Table, bonds, tail, head, maxAtoms, maxBonds, badEnd?, selfBond?, seenBefore?, END, SELF, TWICE, tableTests, firstOf, refusal}
-use Rattle.definitions.proofs.Tests.{or-neither, none-at}
-use Rattle.definitions.proofs.Refusals.{EvenBytes, GoodCount, FewBonds}
+use lib.ListN.{length}
+use Rattle.definitions.specs.Table.{Table, bonds, selfBond?, tableTests, refusal}
+use Rattle.definitions.proofs.Tests.{Each, each-more, none-at}
+use Rattle.definitions.proofs.Refusals.{EvenBytes, GoodCount, FewBonds, testAt, first-at, first-none, tried-exactly}
 use Rattle.table.specs.Ends.{Fitting}
 use Rattle.table.proofs.Meeting.{inside-fitting}
 
-module _ (M : Table) (numbers : EvenBytes M × GoodCount M × FewBonds M) where
-  -- what is left of the refusals
-  left : refusal M ≡ firstOf (drop 3 (tableTests M))
-  unfolding refusal firstOf
-  left =
-      simp (
-        ne-eqb (length (M .bytes) % 2) 1 (omega arith),
-        ne-eqb (M .atoms) 0 (omega arith),
-        le-ltb maxAtoms (M .atoms) (omega arith),
-        le-ltb maxBonds (bonds M) (omega arith),
-      )
+-- the tests before place i have failed
+pub record Tried (M : Table) (i : ℕ) : Type 0 where
+  pub failed : Each i (λ j. testAt (tableTests M) j .1 ≡ false)
 
-  module _ {ends : Bool} (ends-told : ends ≡ some? (bonds M) (badEnd? M)) where
-    -- some bond names an atom not below the count
-    pub told-end : ends ≡ true → END ≡ refusal M
-    unfolding firstOf
-    told-end h = rw (left, sym ends-told ∙ h)
+-- the tests on numbers fail
+pub tried-numbers : (M : Table) → EvenBytes M × GoodCount M × FewBonds M → Tried M 3
+tried-numbers M h = record { failed = tried-exactly M 3 .1 (h .0, (h .1, (h .2, tt))) }
 
-    -- where none does the bytes fit
-    pub told-fitting : ends ≡ false → Fitting (M .bytes)
-    told-fitting h =
-        inside-fitting (numbers .0) (numbers .1 .1) (numbers .2) (λ k l.
-        let inside = or-neither (leb (M .atoms) (tail M k)) (leb (M .atoms) (head M k)) (none-at (bonds M) (badEnd? M) (sym ends-told ∙ h) k l) in
-        (leb-false (M .atoms) (tail M k) (inside .0), leb-false (M .atoms) (head M k) (inside .1)))
+module _ {M : Table} {i : ℕ} (t : Tried M i) {r : Bool} (told : r ≡ testAt (tableTests M) i .1) where
+  -- the next test fails
+  pub tried-more : r ≡ false → Tried M (suc i)
+  tried-more e = record { failed = each-more i (t .failed) (sym told ∙ e) }
 
-    module _ (inside : ends ≡ false) {selfs : Bool} (selfs-told : selfs ≡ some? (bonds M) (selfBond? M)) where
-      -- some bond joins an atom to itself
-      pub told-self : selfs ≡ true → SELF ≡ refusal M
-      unfolding firstOf
-      told-self h = rw (left, sym ends-told ∙ inside, sym selfs-told ∙ h)
+  -- the next test passes
+  pub tried-found : r ≡ true → testAt (tableTests M) i .0 ≡ refusal M
+  unfolding refusal
+  tried-found e = sym (first-at (tableTests M) i (t .failed, sym told ∙ e))
 
-      module _ (no-self : selfs ≡ false) {twice : Bool} (twice-told : twice ≡ some? (bonds M) (seenBefore? M)) where
-        -- some pair of atoms is bonded twice
-        pub told-twice : twice ≡ true → TWICE ≡ refusal M
-        unfolding firstOf
-        told-twice h = rw (left, sym ends-told ∙ inside, sym selfs-told ∙ no-self, sym twice-told ∙ h)
+-- every test fails
+pub tried-all : {M : Table} → Tried M (length (tableTests M)) → 0 ≡ refusal M
+unfolding refusal
+tried-all {M} t = sym (first-none (tableTests M) (t .failed))
 
-        -- no test passes
-        pub told-accepted : twice ≡ false → 0 ≡ refusal M
-        unfolding firstOf
-        told-accepted h = rw (left, sym ends-told ∙ inside, sym selfs-told ∙ no-self, sym twice-told ∙ h)
+-- where no bond names an atom that is not below the count, the bytes fit
+pub tried-fitting : {M : Table} → Tried M 4 → Fitting (M .bytes)
+tried-fitting {M} t = let h = tried-exactly M 4 .0 (t .failed) in inside-fitting (h .0) (h .1 .0 .1) (h .1 .1 .0) (h .1 .1 .1 .0)
+
+-- and where none joins an atom to itself, each joins two
+pub tried-two : {M : Table} → Tried M 5 → (k : ℕ) → k < bonds M → selfBond? M k ≡ false
+tried-two {M} t = none-at (bonds M) (selfBond? M) (t .failed 4 (omega arith))

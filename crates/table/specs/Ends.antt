@@ -1,5 +1,4 @@
--- The bond bytes by themselves, without an atom count.
--- Assumes nothing.
+-- The bond bytes by themselves, without an atom count. Assumes nothing.
 use mathlib.Core.List.{List}
 use Prim.Native.Nat.{ℕ, _/_, _≤_, _<_}
 use lib.ListN.{length, getD}
@@ -9,7 +8,7 @@ use Rattle.definitions.specs.Table.{Table, table, maxAtoms, maxBonds}
 abbrev pub bondsAlone : List ℕ → Table
 bondsAlone bs = table 0 bs
 
--- "At most 64 atoms and 64 bonds": what an accepted table's bytes are
+-- the bytes of an accepted table: no more bonds than a set has room for, and no end above the highest atom that there may be
 pub record Fitting (bs : List ℕ) : Type 0 where
   pub few : length bs / 2 ≤ maxBonds
   pub ends : (i : ℕ) → i < length bs → getD bs i 0 < maxAtoms

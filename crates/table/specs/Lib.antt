@@ -1,4 +1,2 @@
 -- The definitions that the contracts of this crate cite beside those of `definitions`.
 pub mod Ends
-pub mod Row
-pub mod Fragments

@@ -1,16 +1,17 @@
-// The refusals 1 to 6 of a table, each tried over the whole table before the next.
-use super::answer;
-use super::ends::end_at;
-use super::limits;
-use sets::AtomSet;
+// The refusals 1 to 6 of a table. A test is through with all bonds before the next test begins.
+use super::ends::ends_of;
+use answers::MAX_ATOMS;
+use answers::MAX_BONDS;
+use sets::BondSet;
 ghost use mathlib.Core.Path.{_≡_};
-ghost use Prim.Native.Nat.{_/_, _<_};
+ghost use mathlib.Core.Bool.{false};
+ghost use Prim.Native.Nat.{ℕ, _/_, _<_};
 ghost use lib.ListN.{length};
 ghost use Rattle.definitions.specs.Search.{some?};
 ghost use Rattle.definitions.specs.Table as spec;
 ghost use Rattle.table.specs.Ends.{bondsAlone, Fitting};
 
-// Does bond k name an atom not below the count?
+// Has bond k an end that is the atom count or higher?
 fn bad_end(atoms: u64, bonds: &[u8], k: usize) -> bool
     requires { ⌜ k < length (now bonds) / 2 ⌝ }
     ensures { λ r. ⌜ r ≡ spec.badEnd? (spec.table atoms (now (bonds .entry))) k ⌝ }
@@ -18,7 +19,7 @@ fn bad_end(atoms: u64, bonds: &[u8], k: usize) -> bool
     (atoms <= bonds[2 * k] as u64) | (atoms <= bonds[2 * k + 1] as u64)
 }
 
-// Does some bond name an atom not below the count?
+// Has some bond such an end?
 fn any_bad_end(atoms: u64, bonds: &[u8]) -> bool
     ensures { λ r. ⌜ r ≡ some? (length (now (bonds .entry)) / 2) (spec.badEnd? (spec.table atoms (now (bonds .entry)))) ⌝ }
 {
@@ -32,16 +33,18 @@ fn any_bad_end(atoms: u64, bonds: &[u8]) -> bool
     false
 }
 
-// Does bond k join an atom to itself?
+// Are the two ends of bond k one atom?
 fn self_bond(bonds: &[u8], k: usize) -> bool
-    requires { ⌜ k < length (now bonds) / 2 ⌝ }
+    requires { ⌜ Fitting (now bonds) × (k < length (now bonds) / 2) ⌝ }
     ensures { λ r. ⌜ r ≡ spec.selfBond? (bondsAlone (now (bonds .entry))) k ⌝ }
 {
-    bonds[2 * k] == bonds[2 * k + 1]
+    let ends = ends_of(bonds, k);
+    ends.tail == ends.head
 }
 
-// Does some bond join an atom to itself?
+// Are the two ends of some bond one atom?
 fn any_self_bond(bonds: &[u8]) -> bool
+    requires { ⌜ Fitting (now bonds) ⌝ }
     ensures { λ r. ⌜ r ≡ some? (length (now (bonds .entry)) / 2) (spec.selfBond? (bondsAlone (now (bonds .entry)))) ⌝ }
 {
     let mut k: usize = 0;
@@ -54,22 +57,23 @@ fn any_self_bond(bonds: &[u8]) -> bool
     false
 }
 
-// Is some pair of atoms bonded twice? Each bond is looked up among the neighbours that the bonds before it have made, and then makes its
-// two atoms neighbours of one another.
+// Is some pair of atoms bonded twice? A row is the set of the bonds so far that meet an atom; a bond whose two atoms are bonded already
+// finds that bond in the rows of both. No bond joins an atom to itself here.
 fn any_twice(bonds: &[u8]) -> bool
-    requires { ⌜ Fitting (now bonds) ⌝ }
+    requires { ⌜ Fitting (now bonds) × ((k : ℕ) → k < length (now bonds) / 2 → spec.selfBond? (bondsAlone (now bonds)) k ≡ false) ⌝ }
     ensures { λ r. ⌜ r ≡ some? (length (now (bonds .entry)) / 2) (spec.seenBefore? (bondsAlone (now (bonds .entry)))) ⌝ }
 {
-    let mut near = [AtomSet::EMPTY; limits::MAX_ATOMS];
+    let mut rows = [BondSet::EMPTY; MAX_ATOMS];
     let mut k: usize = 0;
     while k < bonds.len() / 2 {
-        let a = end_at(bonds, 2 * k);
-        let b = end_at(bonds, 2 * k + 1);
-        if near[a].has(b) {
+        let ends = ends_of(bonds, k);
+        let a = ends.tail;
+        let b = ends.head;
+        if rows[a].meets(rows[b]) {
             return true;
         }
-        near[a] = near[a].with(b);
-        near[b] = near[b].with(a);
+        rows[a] = rows[a].with(k);
+        rows[b] = rows[b].with(k);
         k += 1;
     }
     false
@@ -80,25 +84,25 @@ pub fn refusal_of(atoms: u64, bonds: &[u8]) -> u8
     ensures { λ r. ⌜ r ≡ spec.refusal (spec.table atoms (now (bonds .entry))) ⌝ }
 {
     if bonds.len() % 2 == 1 {
-        return answer::ODD;
+        return answers::ODD;
     }
     if atoms == 0 {
-        return answer::ATOMS;
+        return answers::ATOMS;
     }
-    if atoms > limits::MAX_ATOMS as u64 {
-        return answer::ATOMS;
+    if atoms > MAX_ATOMS as u64 {
+        return answers::ATOMS;
     }
-    if bonds.len() / 2 > limits::MAX_BONDS {
-        return answer::BONDS;
+    if bonds.len() / 2 > MAX_BONDS {
+        return answers::BONDS;
     }
     if any_bad_end(atoms, bonds) {
-        return answer::END;
+        return answers::END;
     }
     if any_self_bond(bonds) {
-        return answer::SELF;
+        return answers::SELF;
     }
     if any_twice(bonds) {
-        return answer::TWICE;
+        return answers::TWICE;
     }
     0
 }

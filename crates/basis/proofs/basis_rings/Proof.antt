@@ -1,8 +1,8 @@
--- A refusal is handed on; else the rings that are written are those of the basis.
--- Assumes nothing.
+-- A refusal is handed on; else the rings that are written are those of the basis. Assumes nothing.
 use native.Mathlib.Omega.{arith}
+use Rattle.answers.proofs.Answers.{sets-refused, sets-accepted}
+use Rattle.basis.proofs.Holding.{held-room}
 use borrow.Author.Needs.{needs}
-use Rattle.table.proofs.Answers.{is-refused, is-accepted}
 use Rattle.basis.proofs.basis_rings.Statement.{statement}
 use Rattle.basis.proofs.basis_rings.Tie as tie
 
@@ -10,13 +10,13 @@ refusal-of-requires : tie.Need-refusal-of-requires
 refusal-of-requires c κs = search needs
 
 returns : tie.Need-returns
-returns c = is-refused _ _ (c .before .refusal-of .ensures) (omega arith)
+returns c = sets-refused _ _ (c .before .refusal-of .ensures) (omega arith)
 
 basis-of-requires : tie.Need-basis-of-requires
 basis-of-requires c κs = search needs
 
-write-words-requires : tie.Need-write-words-requires
-write-words-requires c κs = search needs
+write-sets-requires : tie.Need-write-sets-requires
+write-sets-requires c κs = held-room (c .before .before .before .before .basis-of .ensures)
 
 same-length : tie.Need-same-length
 same-length c = search needs
@@ -24,7 +24,7 @@ same-length c = search needs
 returns-2 : tie.Need-returns-2
 returns-2 c =
     let held = c .before .before .before .before .before .before .before in
-    is-accepted _ _ (held .before .before .refusal-of .ensures) (omega arith) (held .basis-of .ensures .rings) (c .before .before .write-words .ensures)
+    sets-accepted _ _ (held .before .before .refusal-of .ensures) (omega arith) (held .basis-of .ensures .rings) (c .before .before .write-sets .ensures)
 
 pub basis-rings-spec : {M : Type 1} → statement M
 basis-rings-spec =
@@ -33,6 +33,6 @@ basis-rings-spec =
     refusal-of-requires
     returns
     basis-of-requires
-    write-words-requires
+    write-sets-requires
     same-length
     returns-2)

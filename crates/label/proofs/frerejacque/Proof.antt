@@ -1,5 +1,4 @@
--- The difference, where it is not negative.
--- Assumes nothing.
+-- The difference, where it is not negative. Assumes nothing.
 use native.Mathlib.Omega.{arith}
 use Rattle.definitions.specs.Label as spec
 use borrow.Author.Needs.{needs}

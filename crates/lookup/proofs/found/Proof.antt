@@ -1,7 +1,7 @@
 -- `lookup::found` meets its contract: the part from where the search ends to where the run ends. Assumes nothing.
 use native.Mathlib.Omega.{arith}
 use borrow.Author.Needs.{needs}
-use Rattle.lookup.proofs.Laws.{start-le, found-end, part-found}
+use Rattle.lookup.proofs.Laws.{found-room, part-found}
 use Rattle.lookup.proofs.found.Statement.{statement}
 use Rattle.lookup.proofs.found.Tie as tie
 
@@ -12,9 +12,13 @@ run-end-requires : tie.Need-run-end-requires
 run-end-requires c κs = search needs
 
 mul-result : tie.Need-mul-result
-mul-result c =
-    let a = c .before .before .before .args in
-    omega (arith, start-le (a .size) (a .words .now))
+mul-result c = omega (arith, found-room _ _ (c .before .run-start .ensures) (c .run-end .ensures))
+
+mul-result-2 : tie.Need-mul-result-2
+mul-result-2 c = omega (arith, found-room _ _ (c .before .run-start .ensures) (c .run-end .ensures))
+
+mul-result-3 : tie.Need-mul-result-3
+mul-result-3 c = omega (arith, found-room _ _ (c .before .run-start .ensures) (c .run-end .ensures))
 
 sub-result : tie.Need-sub-result
 sub-result c = search needs
@@ -23,9 +27,7 @@ part-result-start : tie.Need-part-result-start
 part-result-start c = search needs
 
 part-result-end : tie.Need-part-result-end
-part-result-end c =
-    let a = c .before .before .before .args in
-    omega (arith, found-end (a .size) (a .words .now) (c .before .run-start .ensures) (c .run-end .ensures))
+part-result-end c = omega (arith, found-room _ _ (c .before .run-start .ensures) (c .run-end .ensures))
 
 returns : tie.Need-returns
 returns c = part-found _ _ (c .before .before .run-start .ensures) (c .before .run-end .ensures)
@@ -37,6 +39,8 @@ found-spec =
     run-start-requires
     run-end-requires
     mul-result
+    mul-result-2
+    mul-result-3
     sub-result
     part-result-start
     part-result-end

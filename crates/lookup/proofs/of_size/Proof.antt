@@ -1,7 +1,7 @@
--- `lookup::of_size` meets its contract: what is found in a list is empty exactly where no word of it has that size. Assumes nothing.
+-- `lookup::of_size` meets its contract: what is found in a list is empty exactly where no set of it has that size. Assumes nothing.
 use native.Mathlib.Omega.{arith}
-use borrow.Author.Needs.{needs}
 use Rattle.lookup.proofs.Laws.{of-first, of-second, of-neither}
+use borrow.Author.Needs.{needs}
 use Rattle.lookup.proofs.of_size.Statement.{statement}
 use Rattle.lookup.proofs.of_size.Tie as tie
 

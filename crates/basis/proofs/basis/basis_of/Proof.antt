@@ -1,26 +1,25 @@
--- Before each turn the bonds below k are tried, and the rings of the closure bonds among them are in the array.
--- Assumes nothing.
-use mathlib.Core.Path.{refl}
+-- Before each turn the bonds below k are tried, and the rings of the closure bonds among them are in the array. Assumes nothing.
+use mathlib.Core.Path.{_≡_, refl, sym, _∙_}
 use mathlib.Core.Logic.{⊎-elim}
 use mathlib.Core.List.{List}
-use Prim.Native.Nat.{ℕ, _/_, _-_, _<_}
+use Prim.Native.Nat.{ℕ, _/_, _-_, _*_, _<_}
 use native.Mathlib.Omega.{arith}
 use lib.ListN.{length}
 use denote.Ref.{now}
-use borrow.Author.Needs.{needs}
 use Rattle.sets.specs.Bond.{bits}
+use Rattle.sets.specs.Lists.{setsIn, words}
+use Rattle.sets.proofs.Lists.{sets-blank}
 use Rattle.definitions.specs.Table.{Table, table, maxAtoms, maxBonds}
 use Rattle.definitions.proofs.Refusals.{Valid, accepted}
 use Rattle.table.proofs.Meeting.{valid-fitting}
-use Rattle.basis.proofs.Replacing.{getD-same}
-use Rattle.basis.proofs.Collecting.{collected-none}
 use Rattle.basis.proofs.Leading.{climbed-low}
 use Rattle.basis.proofs.Trying.{Tried, Reached, tried-none, climbs-reached, tried-settled, tried-turn, tried-all}
+use borrow.Author.Needs.{needs}
 use Rattle.basis.proofs.basis.basis_of.Statement.{statement}
 use Rattle.basis.proofs.basis.basis_of.Tie as tie
 
 abbrev Inv-loop : tie.InvT-loop
-Inv-loop atoms bonds lower₀ ways₀ rings₀ count₀ k₀ lower ways rings count k = Tried (table atoms bonds) lower ways rings count k
+Inv-loop atoms bonds lower₀ ways₀ rings₀ count₀ k₀ lower ways rings count k = (length rings ≡ maxBonds * words) × Tried (table atoms bonds) lower (setsIn ways) (setsIn rings) count k
 
 abbrev μ-loop : tie.MeasureT-loop
 μ-loop atoms bonds lower₀ ways₀ rings₀ count₀ k₀ lower ways rings count k = length bonds / 2 - k
@@ -29,20 +28,28 @@ abbrev μ-loop : tie.MeasureT-loop
 valid : (c : tie.Start Inv-loop μ-loop) → Valid (table (c .args .atoms) (now (c .args .bonds)))
 valid c = accepted (table (c .args .atoms) (now (c .args .bonds))) .0 (c .pre)
 
--- a turn tries one of at most 64 bonds
+-- the table that is read
+abbrev read : tie.In-loop Inv-loop μ-loop → Table
+read c = let start = c .before .before .before .before in table (start .args .atoms) (now (start .args .bonds))
+
+-- the bonds below k are tried
+abbrev tried : (c : tie.In-loop Inv-loop μ-loop) → Tried (read c) (c .before .loop .lower) (setsIn (c .before .loop .ways)) (setsIn (c .before .loop .rings)) (c .before .loop .count) (c .before .loop .k)
+tried c = c .before .loop .inv .1
+
+-- a turn tries one of the bonds, of which there are no more than places
 few : (c : tie.In-loop Inv-loop μ-loop) → c .before .loop .k < maxBonds
 few c = omega (arith, valid (c .before .before .before .before) .few-bonds)
 
 -- so there is a place for its ring
 free : (c : tie.In-loop Inv-loop μ-loop) → c .before .loop .count < maxBonds
-free c = omega (arith, few c, c .before .loop .inv .found .few)
+free c = omega (arith, few c, tried c .found .few)
 
 -- from where the bond is summed with the ways: the climb from its head, that from its tail, and the start of the turn
 abbrev heads : tie.After-with Inv-loop μ-loop → tie.After-climb-from2 Inv-loop μ-loop
 heads c = c .before .before .before .before .before
 
 abbrev tails : tie.After-climb-from2 Inv-loop μ-loop → tie.After-climb-from Inv-loop μ-loop
-tails c = c .before .before .before .before .before .before .before
+tails c = c .before .before .before .before .before .before
 
 abbrev turn : tie.After-climb-from Inv-loop μ-loop → tie.In-loop Inv-loop μ-loop
 turn c = c .before .before .before .before
@@ -51,23 +58,16 @@ turn c = c .before .before .before .before
 abbrev climb : tie.After-settle Inv-loop μ-loop → tie.After-climb-from Inv-loop μ-loop
 climb c = c .before .before .before
 
--- the table that is read
-abbrev read : tie.In-loop Inv-loop μ-loop → Table
-read c = table (c .before .before .before .before .args .atoms) (now (c .before .before .before .before .args .bonds))
-
 -- the ends of the bond are atoms of it
-tail-low : (c : tie.After-climb-from Inv-loop μ-loop) → c .before .before .before .end-at .result < read (turn c) .atoms
-tail-low c = omega (arith, c .before .before .before .end-at .ensures .0, valid (turn c .before .before .before .before) .inside (turn c .before .loop .k) (turn c .loop-test .taken))
-
-head-low : (c : tie.After-climb-from2 Inv-loop μ-loop) → c .before .before .before .end-at2 .result < read (turn (tails c)) .atoms
-head-low c =
-    let at = turn (tails c) in
-    omega (arith, c .before .before .before .end-at2 .ensures .0, valid (at .before .before .before .before) .inside (at .before .loop .k) (at .loop-test .taken))
+low : (c : tie.After-ends-of Inv-loop μ-loop) → (c .ends-of .result .tail < read (c .before) .atoms) × (c .ends-of .result .head < read (c .before) .atoms)
+low c =
+    let at = c .before in
+    omega (arith, c .ends-of .ensures .0 .0, c .ends-of .ensures .1 .0, valid (at .before .before .before .before) .inside (at .before .loop .k) (at .loop-test .taken))
 
 -- the first atom is reached from the tail
 one : (c : tie.After-climb-from Inv-loop μ-loop)
-    → Reached (read (turn c)) (turn c .before .loop .lower) (turn c .before .loop .k) (c .before .before .before .end-at .result) (c .climb-from .result .atom) (bits (c .climb-from .result .bonds))
-one c = climbs-reached (turn c .before .loop .inv) (tail-low c) (c .climb-from .ensures)
+    → Reached (read (turn c)) (turn c .before .loop .lower) (turn c .before .loop .k) (c .before .before .before .ends-of .result .tail) (c .climb-from .result .atom) (bits (c .climb-from .result .bonds))
+one c = climbs-reached (tried (turn c)) (low (c .before .before .before) .0) (c .climb-from .ensures)
 
 -- the bonds below k are tried, and what was reached before is reached
 abbrev Kept : (c : tie.In-loop Inv-loop μ-loop) → List ℕ → List ℕ → List ℕ → List ℕ → Type 0
@@ -76,45 +76,31 @@ Kept c old lower ways rings =
     × ((b y v : ℕ) → b < read c .atoms → Reached (read c) old (c .before .loop .k) b y v → Reached (read c) lower (c .before .loop .k) b y v)
 
 -- both hold where the tail leads straight to the first atom
-first : (c : tie.After-settle Inv-loop μ-loop) → Kept (turn (climb c)) (turn (climb c) .before .loop .lower) (c .settle .last .0) (c .settle .last .1 .0) (turn (climb c) .before .loop .rings)
+first : (c : tie.After-settle Inv-loop μ-loop) → Kept (turn (climb c)) (turn (climb c) .before .loop .lower) (c .settle .last .0) (setsIn (c .settle .last .1 .0)) (setsIn (turn (climb c) .before .loop .rings))
 first c =
     let at = turn (climb c) in
-    tried-settled (at .before .loop .inv) (valid (at .before .before .before .before)) (tail-low (climb c)) (one (climb c)) (c .settle .ensures .0) (c .settle .ensures .1)
+    tried-settled (tried at) (valid (at .before .before .before .before)) (low (climb c .before .before .before) .0) (one (climb c)) (c .settle .ensures .0) (c .settle .ensures .1)
 
 apart-requires : tie.Need-apart-requires Inv-loop μ-loop
 apart-requires c κs = valid (c .before) .few-atoms
 
 loop-holds : tie.Need-loop-holds Inv-loop μ-loop
-loop-holds c =
-    tried-none _ _ _ _ (search needs) refl (c .apart .ensures .0) (c .apart .ensures .1) (λ a. getD-same maxAtoms a 0)
-    (collected-none _ _ refl (λ i. getD-same maxBonds i 0))
+loop-holds c = (refl, tried-none _ _ (search needs) (c .apart .ensures .0) (c .apart .ensures .1) (sets-blank maxAtoms) (sets-blank maxBonds))
 
-mul-end-at : tie.Need-mul-end-at Inv-loop μ-loop
-mul-end-at c = search needs
-
-end-at-requires : tie.Need-end-at-requires Inv-loop μ-loop
-end-at-requires c κs = (valid-fitting (valid (c .before .before .before .before)), omega arith)
+ends-of-requires : tie.Need-ends-of-requires Inv-loop μ-loop
+ends-of-requires c κs = (valid-fitting (valid (c .before .before .before .before)), c .loop-test .taken)
 
 climb-from-requires : tie.Need-climb-from-requires Inv-loop μ-loop
-climb-from-requires c κs = (c .before .before .before .before .loop .inv .falling, c .before .before .end-at .ensures .1)
+climb-from-requires c κs = (tried (c .before .before .before) .falling, c .before .before .ends-of .ensures .0 .1)
 
 settle-requires : tie.Need-settle-requires Inv-loop μ-loop
-settle-requires c κs = c .before .before .before .before .before .end-at .ensures .1
-
-mul-end-at-2 : tie.Need-mul-end-at-2 Inv-loop μ-loop
-mul-end-at-2 c = search needs
-
-add-end-at : tie.Need-add-end-at Inv-loop μ-loop
-add-end-at c = search needs
-
-end-at-requires-2 : tie.Need-end-at-requires-2 Inv-loop μ-loop
-end-at-requires-2 c κs = (valid-fitting (valid (turn (climb c) .before .before .before .before)), omega (arith, turn (climb c) .loop-test .taken))
+settle-requires c κs = c .before .before .before .before .before .ends-of .ensures .0 .1
 
 climb-from-requires-2 : tie.Need-climb-from-requires-2 Inv-loop μ-loop
-climb-from-requires-2 c κs = (first (c .before .before .before) .0 .falling, c .before .before .end-at2 .ensures .1)
+climb-from-requires-2 c κs = (first (c .before .before) .0 .falling, climb (c .before .before) .before .before .before .ends-of .ensures .1 .1)
 
 settle-requires-2 : tie.Need-settle-requires-2 Inv-loop μ-loop
-settle-requires-2 c κs = c .before .before .before .before .before .end-at2 .ensures .1
+settle-requires-2 c κs = tails (c .before .before) .before .before .before .ends-of .ensures .1 .1
 
 sum-requires : tie.Need-sum-requires Inv-loop μ-loop
 sum-requires c κs = search needs
@@ -122,25 +108,28 @@ sum-requires c κs = search needs
 with-requires : tie.Need-with-requires Inv-loop μ-loop
 with-requires c κs = search needs
 
-mul-rings : tie.Need-mul-rings Inv-loop μ-loop
-mul-rings c = omega (arith, free (turn (tails (heads (c .before .before .before)))))
+slice-aggregate-put-at : tie.Need-slice-aggregate-put-at Inv-loop μ-loop
+slice-aggregate-put-at c = sym (turn (tails (heads (c .before .before .before .before))) .before .loop .inv .0)
 
-array-write-rings : tie.Need-array-write-rings Inv-loop μ-loop
-array-write-rings c = free (turn (tails (heads (c .before .before .before))))
+put-at-requires : tie.Need-put-at-requires Inv-loop μ-loop
+put-at-requires c κs =
+    let at = turn (tails (heads (c .before .before .before .before))) in
+    omega (arith, free at, tried at .found .long)
 
 add-count : tie.Need-add-count Inv-loop μ-loop
-add-count c = omega (arith, free (turn (tails (heads (c .before .before .before)))))
+add-count c = omega (arith, free (turn (tails (heads (c .before .before .before .before .before .before)))))
 
 join-requires : tie.Need-join-requires Inv-loop μ-loop
 join-requires c κs =
     let head = heads (c .before .before .before .before .before) in
     let tail = tails head in
+    let ends = tail .before .before .before .ends-of .ensures in
     omega (
       arith,
       climbed-low (tail .climb-from .ensures .climbed),
       climbed-low (head .climb-from2 .ensures .climbed),
-      tail .before .before .before .end-at .ensures .1,
-      head .before .before .before .end-at2 .ensures .1,
+      ends .0 .1,
+      ends .1 .1,
     )
 
 add-k : tie.Need-add-k Inv-loop μ-loop
@@ -155,22 +144,23 @@ loop-again c =
     let head = heads round in
     let tail = tails head in
     let at = turn tail in
-    let once = first (head .before .before .before .before) in
-    let other = climbs-reached (once .0) (head-low head) (head .climb-from2 .ensures) in
+    let ends = tail .before .before .before in
+    let once = first (head .before .before .before) in
+    let other = climbs-reached (once .0) (low ends .1) (head .climb-from2 .ensures) in
     let settled = round .before .before .settle2 .ensures in
-    let twice = tried-settled (once .0) (valid (at .before .before .before .before)) (head-low head) other (settled .0) (settled .1) in
-    let ends =
-    tried-turn (twice .0) (valid (at .before .before .before .before)) (at .loop-test .taken) (tail .before .before .before .end-at .ensures .0)
-    (head .before .before .before .end-at2 .ensures .0) (twice .1 _ _ _ (tail-low tail) (once .1 _ _ _ (tail-low tail) (one tail))) (twice .1 _ _ _ (head-low head) other)
+    let twice = tried-settled (once .0) (valid (at .before .before .before .before)) (low ends .1) other (settled .0) (settled .1) in
+    let both =
+    tried-turn (twice .0) (valid (at .before .before .before .before)) (at .loop-test .taken) (ends .ends-of .ensures .0 .0)
+    (ends .ends-of .ensures .1 .0) (twice .1 _ _ _ (low ends .0) (once .1 _ _ _ (low ends .0) (one tail))) (twice .1 _ _ _ (low ends .1) other)
     (round .before .sum .ensures) (round .with .ensures)
     in
     ⊎-elim
-    (λ w. rw (w .1, w .2, w .3, w .4) (ends .0 (w .0 .taken)))
-    (λ w. rw (w .4, w .5, w .6, w .7, w .3 .ensures .0, w .3 .ensures .1) (ends .1 (w .0 .left)))
+    (λ w. rw (w .4, w .5, w .6, w .7) (w .2 .ensures .long ∙ at .before .loop .inv .0, rw (w .2 .ensures .sets) (both .0 (w .0 .taken))))
+    (λ w. rw (w .4, w .5, w .6, w .7) (at .before .loop .inv .0, rw (w .3 .ensures .0, w .3 .ensures .1) (both .1 (w .0 .left))))
     (c .if1 .came)
 
 returns : tie.Need-returns Inv-loop μ-loop
-returns c = tried-all (valid (c .before .before .before .before)) (c .before .loop .inv) (c .loop-test .left)
+returns c = tried-all (valid (c .before .before .before .before)) (c .before .loop .inv .1) (c .loop-test .left)
 
 pub basis-of-spec : {M : Type 1} → statement M
 basis-of-spec =
@@ -180,19 +170,15 @@ basis-of-spec =
     μ-loop
     apart-requires
     loop-holds
-    mul-end-at
-    end-at-requires
+    ends-of-requires
     climb-from-requires
     settle-requires
-    mul-end-at-2
-    add-end-at
-    end-at-requires-2
     climb-from-requires-2
     settle-requires-2
     sum-requires
     with-requires
-    mul-rings
-    array-write-rings
+    slice-aggregate-put-at
+    put-at-requires
     add-count
     join-requires
     add-k

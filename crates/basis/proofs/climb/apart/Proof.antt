@@ -1,5 +1,4 @@
--- Before each turn the atoms below a lead to themselves, and none leads to a higher one.
--- Assumes nothing.
+-- Before each turn the atoms below a lead to themselves, and none leads to a higher one. Assumes nothing.
 use mathlib.Core.Path.{_≡_, refl}
 use Prim.Native.Nat.{ℕ, _-_, _≤_, _<_}
 use native.Mathlib.Omega.{arith}

@@ -1,9 +1,13 @@
--- Before each turn the climb has come to a; each step goes to a lower atom.
--- Assumes nothing.
+-- Before each turn the climb has come to a; each step goes to a lower atom. Assumes nothing.
+use mathlib.Core.Path.{subst⁻¹}
 use Prim.Native.Nat.{_≤_}
 use native.Mathlib.Omega.{arith}
 use borrow.Author.Needs.{needs}
 use Rattle.sets.specs.Bond.{bits}
+use Rattle.sets.specs.Lists.{setsIn}
+use Rattle.sets.proofs.Lists.{sets-whole}
+use Rattle.sets.proofs.Machine.{no-bonds}
+use Rattle.definitions.specs.Table.{maxAtoms}
 use Rattle.basis.specs.Climbing.{Climbed}
 use Rattle.basis.specs.Climbing.Climbed.{start}
 use Rattle.basis.proofs.Leading.{climbed-on, climbed-last}
@@ -11,13 +15,13 @@ use Rattle.basis.proofs.climb.climb_from.Statement.{statement}
 use Rattle.basis.proofs.climb.climb_from.Tie as tie
 
 abbrev Inv-loop : tie.InvT-loop
-Inv-loop lower ways atom a₀ bonds₀ a bonds = (a ≤ atom) × Climbed lower ways atom a (bits bonds)
+Inv-loop lower ways atom a₀ bonds₀ a bonds = (a ≤ atom) × Climbed lower (setsIn ways) atom a (bits bonds)
 
 abbrev μ-loop : tie.MeasureT-loop
 μ-loop lower ways atom a₀ bonds₀ a bonds = a
 
 loop-holds : tie.Need-loop-holds Inv-loop μ-loop
-loop-holds c = (omega arith, start)
+loop-holds c = (omega arith, subst⁻¹ (Climbed _ _ _ _) no-bonds start)
 
 mul-if1 : tie.Need-mul-if1 Inv-loop μ-loop
 mul-if1 c = search needs
@@ -25,14 +29,8 @@ mul-if1 c = search needs
 element-copy-out-if1 : tie.Need-element-copy-out-if1 Inv-loop μ-loop
 element-copy-out-if1 c = search needs
 
-mul-of-word : tie.Need-mul-of-word Inv-loop μ-loop
-mul-of-word c = search needs
-
-element-copy-out-of-word : tie.Need-element-copy-out-of-word Inv-loop μ-loop
-element-copy-out-of-word c = search needs
-
-of-word-requires : tie.Need-of-word-requires Inv-loop μ-loop
-of-word-requires c κs = search needs
+at-requires : tie.Need-at-requires Inv-loop μ-loop
+at-requires c κs = omega (arith, sets-whole maxAtoms (c .before .before .before .before .args .ways .now) (search needs))
 
 sum-requires : tie.Need-sum-requires Inv-loop μ-loop
 sum-requires c κs = search needs
@@ -49,7 +47,7 @@ loop-less c = search needs
 loop-again : tie.Need-loop-again Inv-loop μ-loop
 loop-again c =
     let head = c .before .before .before .before .before .before in
-    (omega (arith, head .loop .inv .0), climbed-on (head .loop .inv .1) (omega arith) (c .before .before .of-word .ensures) (c .before .sum .ensures))
+    (omega (arith, head .loop .inv .0), climbed-on (head .loop .inv .1) (omega arith) (c .before .before .at .ensures) (c .before .sum .ensures))
 
 returns : tie.Need-returns Inv-loop μ-loop
 returns c =
@@ -65,9 +63,7 @@ climb-from-spec =
     loop-holds
     mul-if1
     element-copy-out-if1
-    mul-of-word
-    element-copy-out-of-word
-    of-word-requires
+    at-requires
     sum-requires
     mul-a
     element-copy-out-a

@@ -1,17 +1,19 @@
--- The members before i are written, in order, from the start of the list. Assumes nothing.
-use mathlib.Core.Path.{refl}
+-- The members before i are put, in order, from the start of the list. Assumes nothing.
 use Prim.Native.Nat.{_-_}
 use native.Mathlib.Omega.{arith}
 use lib.ListN.{getD}
 use Rattle.sets.specs.Ring.{bits, room}
-use Rattle.sets.proofs.Upto.{next-rises}
-use Rattle.reduced.proofs.Picking.{Picking, picking-none, picking-length, picking-room, picking-more, picking-all}
+use Rattle.sets.specs.Lists.{setsIn}
+use Rattle.sets.proofs.Lists.{sets-length, sets-whole}
+use Rattle.definitions.specs.Table.{maxBonds}
+use Rattle.definitions.proofs.Passing.{passed-rises}
+use Rattle.reduced.proofs.Picking.{Picking, picking-none, picking-room, picking-more, picking-all}
 use borrow.Author.Needs.{needs}
 use Rattle.reduced.proofs.assembly.write_members.Statement.{statement}
 use Rattle.reduced.proofs.assembly.write_members.Tie as tie
 
 abbrev Inv-loop : tie.InvT-loop
-Inv-loop rings members out₀ n₀ i₀ out n i = Picking room (bits members) (λ k. getD rings k 0) out₀ out n i
+Inv-loop rings members out₀ n₀ i₀ out n i = Picking room (bits members) (λ k. getD (setsIn rings) k 0) out₀ out n i
 
 abbrev μ-loop : tie.MeasureT-loop
 μ-loop rings members out₀ n₀ i₀ out n i = room - i
@@ -20,22 +22,18 @@ next-requires : tie.Need-next-requires Inv-loop μ-loop
 next-requires c κs = search needs
 
 loop-holds : tie.Need-loop-holds Inv-loop μ-loop
-loop-holds c = picking-none _ _ _ _ _ (c .before .before .pre) (c .next .ensures)
+loop-holds c = picking-none _ _ _ _ (c .before .before .pre) (c .next .ensures)
 
-mul-out : tie.Need-mul-out Inv-loop μ-loop
-mul-out c = search needs
+at-requires : tie.Need-at-requires Inv-loop μ-loop
+at-requires c κs = omega (arith, sets-whole maxBonds (c .before .before .before .before .before .args .rings .now) (search needs))
 
-element-copy-out-out : tie.Need-element-copy-out-out Inv-loop μ-loop
-element-copy-out-out c = search needs
-
-mul-out-2 : tie.Need-mul-out-2 Inv-loop μ-loop
-mul-out-2 c = omega (arith, picking-room (c .before .before .loop .inv) (omega arith), picking-length (c .before .before .loop .inv))
-
-slice-write-out : tie.Need-slice-write-out Inv-loop μ-loop
-slice-write-out c = picking-room (c .before .before .loop .inv) (omega arith)
+put-at-requires : tie.Need-put-at-requires Inv-loop μ-loop
+put-at-requires c κs = picking-room (c .before .before .before .before .loop .inv) (omega arith)
 
 add-n : tie.Need-add-n Inv-loop μ-loop
-add-n c = omega (arith, picking-room (c .before .before .loop .inv) (omega arith), picking-length (c .before .before .loop .inv))
+add-n c =
+    let inv = c .before .before .before .before .before .before .before .loop .inv in
+    omega (arith, picking-room inv (omega arith), sets-length (c .before .before .before .before .before .before .before .loop .out))
 
 add-next : tie.Need-add-next Inv-loop μ-loop
 add-next c = search needs
@@ -44,13 +42,18 @@ next-requires-2 : tie.Need-next-requires-2 Inv-loop μ-loop
 next-requires-2 c κs = search needs
 
 loop-less : tie.Need-loop-less Inv-loop μ-loop
-loop-less c = omega (arith, next-rises room _ _ _ (omega arith) (c .next2 .ensures))
+loop-less c =
+    let inv = c .before .before .before .before .before .before .before .before .loop .inv in
+    omega (arith, passed-rises (inv .passed) (omega arith) (c .next2 .ensures))
 
 loop-again : tie.Need-loop-again Inv-loop μ-loop
-loop-again c = picking-more (c .before .before .before .loop .inv) (omega arith) refl (c .next2 .ensures)
+loop-again c =
+    let put = c .before .before .before in
+    let read = put .before .before in
+    picking-more (read .before .before .before .loop .inv) (omega arith) (read .at .ensures) (put .put-at .ensures) (c .next2 .ensures)
 
 same-length : tie.Need-same-length Inv-loop μ-loop
-same-length c = picking-length (c .before .loop .inv)
+same-length c = c .before .loop .inv .long
 
 returns : tie.Need-returns Inv-loop μ-loop
 returns c = picking-all (c .before .loop .inv) (omega arith)
@@ -63,10 +66,8 @@ write-members-spec =
     μ-loop
     next-requires
     loop-holds
-    mul-out
-    element-copy-out-out
-    mul-out-2
-    slice-write-out
+    at-requires
+    put-at-requires
     add-n
     add-next
     next-requires-2

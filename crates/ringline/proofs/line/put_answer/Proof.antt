@@ -1,9 +1,9 @@
--- The two numbers, the label and the line's end stand one after the other.
--- Assumes nothing.
+-- The two numbers, the label and the line's end stand one after the other. Assumes nothing.
 use native.Mathlib.Omega.{arith}
 use lib.ListN.{take}
-use Rattle.label.proofs.Appending.{appended-as}
-use Rattle.ringline.proofs.Writing.{length-spaced, length-answerLine, appended-four, answer-parts}
+use Rattle.lent.proofs.Appending.{appended-as, appended-four}
+use Rattle.records.proofs.Writing.{length-spaced}
+use Rattle.ringline.proofs.Writing.{length-answerLine, answer-parts}
 use borrow.Author.Needs.{needs}
 use Rattle.ringline.proofs.line.put_answer.Statement.{statement}
 use Rattle.ringline.proofs.line.put_answer.Tie as tie
@@ -18,8 +18,8 @@ put-spaced-requires-2 c κs =
     let a = c .before .before .before .before .before .before .before .args in
     omega (arith, length-spaced (a .number), length-spaced (a .refusal), length-answerLine (a .number) (a .refusal) (take (a .n) (a .label .now)))
 
-put-label-requires : tie.Need-put-label-requires
-put-label-requires c κs =
+put-label-text-requires : tie.Need-put-label-text-requires
+put-label-text-requires c κs =
     let a = c .before .before .before .before .before .before .before .before .before .before .before .args in
     omega (arith, length-spaced (a .number), length-spaced (a .refusal), length-answerLine (a .number) (a .refusal) (take (a .n) (a .label .now)))
 
@@ -36,7 +36,11 @@ same-length c = search needs
 
 returns : tie.Need-returns
 returns c =
-    appended-as (answer-parts _ _ _) (appended-four (omega arith) (c .before .before .before .before .before .before .before .before .before .before .before .before .before .before .before .put-spaced .ensures) (c .before .before .before .before .before .before .before .before .before .before .before .put-spaced2 .ensures) (c .before .before .before .before .before .before .before .put-label .ensures) (c .before .before .put-text .ensures))
+    let label = c .before .before .before .before .before .before .before in
+    let refusal = label .before .before .before .before in
+    let number = refusal .before .before .before .before in
+    appended-as (answer-parts _ _ _)
+    (appended-four (omega arith) (number .put-spaced .ensures) (refusal .put-spaced2 .ensures) (label .put-label-text .ensures) (c .before .before .put-text .ensures))
 
 pub put-answer-spec : {M : Type 1} → statement M
 put-answer-spec =
@@ -44,7 +48,7 @@ put-answer-spec =
     (tie.spec
     put-spaced-requires
     put-spaced-requires-2
-    put-label-requires
+    put-label-text-requires
     slice-aggregate-put-text
     put-text-requires
     same-length

@@ -1,8 +1,8 @@
--- The word, the number and the line's end stand one after the other.
--- Assumes nothing.
+-- The word, the number and the line's end stand one after the other. Assumes nothing.
 use native.Mathlib.Omega.{arith}
 use Rattle.definitions.specs.Ringline.{endLine}
-use Rattle.ringline.proofs.Writing.{appended-three, length-endLine}
+use Rattle.lent.proofs.Appending.{appended-three}
+use Rattle.ringline.proofs.Writing.{length-endLine}
 use borrow.Author.Needs.{needs}
 use Rattle.ringline.proofs.line.put_end.Statement.{statement}
 use Rattle.ringline.proofs.line.put_end.Tie as tie

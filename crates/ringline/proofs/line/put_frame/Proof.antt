@@ -1,8 +1,8 @@
--- The word stands after the number and a space.
--- Assumes nothing.
+-- The word stands after the number and a space. Assumes nothing.
 use native.Mathlib.Omega.{arith}
-use Rattle.label.proofs.Appending.{appended-more, appended-as}
-use Rattle.ringline.proofs.Writing.{length-spaced, length-frameLine, frame-parts}
+use Rattle.lent.proofs.Appending.{appended-more, appended-as}
+use Rattle.records.proofs.Writing.{length-spaced}
+use Rattle.ringline.proofs.Writing.{length-frameLine, frame-parts}
 use borrow.Author.Needs.{needs}
 use Rattle.ringline.proofs.line.put_frame.Statement.{statement}
 use Rattle.ringline.proofs.line.put_frame.Tie as tie

@@ -1,9 +1,8 @@
--- The two cases of the last line.
--- Assumes nothing.
+-- The two cases of the last line. Assumes nothing.
 use Prim.Native.Nat.{_-_}
 use native.Mathlib.Omega.{arith}
-use Rattle.label.proofs.Appending.{appended-as}
-use Rattle.ringline.proofs.Digits.{decimal-most}
+use Rattle.lent.proofs.Appending.{appended-as}
+use Rattle.records.proofs.Digits.{decimal-most}
 use Rattle.ringline.proofs.Writing.{length-endLine, length-frameLine, last-ended, last-broken}
 use borrow.Author.Needs.{needs}
 use Rattle.ringline.proofs.render.put_last.Statement.{statement}

@@ -5,7 +5,7 @@ use Prim.Native.Nat.{_-_}
 use native.Mathlib.Omega.{arith}
 use lib.ListN.{length}
 use Rattle.ringline.proofs.Printing.{Printed, printed-none, printed-room, printed-few, printed-more, printed-all, printed-length, printed-within}
-use Rattle.ringline.proofs.Records.{whole-fits}
+use Rattle.records.proofs.Records.{whole-fits}
 use borrow.Author.Needs.{needs}
 use Rattle.ringline.proofs.render.put_lines.Statement.{statement}
 use Rattle.ringline.proofs.render.put_lines.Tie as tie
@@ -48,22 +48,27 @@ put-record-requires c κs =
 
 record-bytes-requires : tie.Need-record-bytes-requires Inv-loop μ-loop
 record-bytes-requires c κs =
-    omega (arith, whole-fits _ (sym (c .before .before .before .before .before .before .whole .ensures) ∙ c .before .before .before .before .before .if1 .taken))
+    let turn = c .before .before .before .before .before in
+    omega (arith, whole-fits _ (sym (turn .before .whole .ensures) ∙ turn .if1 .taken))
 
 add-from : tie.Need-add-from Inv-loop μ-loop
 add-from c =
-    omega (arith, printed-within (c .before .before .before .before .before .before .before .before .before .loop .inv) (sym (c .before .before .before .before .before .before .before .whole .ensures) ∙ c .before .before .before .before .before .before .if1 .taken))
+    let turn = c .before .before .before .before .before .before in
+    omega (arith, printed-within (turn .before .before .before .loop .inv) (sym (turn .before .whole .ensures) ∙ turn .if1 .taken))
 
 add-number : tie.Need-add-number Inv-loop μ-loop
 add-number c = search needs
 
 loop-less : tie.Need-loop-less Inv-loop μ-loop
 loop-less c =
-    omega (arith, printed-within (c .before .before .before .before .before .before .before .before .before .loop .inv) (sym (c .before .before .before .before .before .before .before .whole .ensures) ∙ c .before .before .before .before .before .before .if1 .taken))
+    let turn = c .before .before .before .before .before .before in
+    omega (arith, printed-within (turn .before .before .before .loop .inv) (sym (turn .before .whole .ensures) ∙ turn .if1 .taken))
 
 loop-again : tie.Need-loop-again Inv-loop μ-loop
 loop-again c =
-    printed-more (c .before .before .before .before .before .before .before .before .before .loop .inv) (sym (c .before .before .before .before .before .before .before .whole .ensures) ∙ c .before .before .before .before .before .before .if1 .taken) (omega arith) (c .before .before .before .put-record .ensures) (c .record-bytes .ensures)
+    let turn = c .before .before .before .before .before .before in
+    let put = c .before .before .before .put-record .ensures in
+    printed-more (turn .before .before .before .loop .inv) (sym (turn .before .whole .ensures) ∙ turn .if1 .taken) (put .0) (put .1) (c .record-bytes .ensures)
 
 put-last-requires : tie.Need-put-last-requires Inv-loop μ-loop
 put-last-requires c κs =
@@ -71,11 +76,14 @@ put-last-requires c κs =
     (p .first, printed-few p (omega arith), omega (arith, printed-length p, p .room))
 
 same-length : tie.Need-same-length Inv-loop μ-loop
-same-length c = c .before .before .put-last .kept .1 .1 .0 ∙ printed-length (c .before .before .before .before .before .before .before .loop .inv)
+same-length c =
+    let last = c .before .before .before .before in
+    c .before .before .put-last .kept .1 .1 .0 ∙ printed-length (last .before .before .before .loop .inv)
 
 returns : tie.Need-returns Inv-loop μ-loop
 returns c =
-    printed-all (c .before .before .before .before .before .before .before .loop .inv) (sym (c .before .before .before .before .before .whole .ensures) ∙ c .before .before .before .before .if1 .left) (c .before .before .put-last .ensures)
+    let last = c .before .before .before .before in
+    printed-all (last .before .before .before .loop .inv) (sym (last .before .whole .ensures) ∙ last .if1 .left) (c .before .before .put-last .ensures)
 
 pub put-lines-spec : {M : Type 1} → statement M
 put-lines-spec =

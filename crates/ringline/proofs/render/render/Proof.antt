@@ -1,8 +1,7 @@
--- The two cases of the whole text.
--- Assumes nothing.
+-- The two cases of the whole text. Assumes nothing.
 use mathlib.Core.Path.{_∙_}
 use native.Mathlib.Omega.{arith}
-use Rattle.label.proofs.Appending.{appended-as, appended-more}
+use Rattle.lent.proofs.Appending.{appended-as, appended-more}
 use Rattle.ringline.proofs.Printing.{ringline-long, ringline-lines, appended-start}
 use borrow.Author.Needs.{needs}
 use Rattle.ringline.proofs.render.render.Statement.{statement}

@@ -1,10 +1,10 @@
 -- The rings of the assembly are found and counted, then those of its smallest basis. Assumes nothing.
-use mathlib.Core.Path.{_∙_, refl}
+use mathlib.Core.Path.{refl, _∙_}
 use native.Mathlib.Omega.{arith}
-use denote.Ref.{now}
+use Rattle.sets.proofs.Lists.{sets-long, sets-whole}
 use Rattle.sets.proofs.Machine.{ring-lt}
-use Rattle.rings.proofs.Perceiving.{combined-listed, listed-choosable}
-use Rattle.rings.proofs.Tallying.{countable-less, alone-room, alone-within, alone-few, alone-spanned, both-one, both-chosen}
+use Rattle.definitions.specs.Table.{maxBonds}
+use Rattle.rings.proofs.Tallying.{countable-less, alone-room, alone-within, alone-few, alone-choosable, both-one, both-chosen}
 use borrow.Author.Needs.{needs}
 use Rattle.rings.proofs.tally.count_assembly.Statement.{statement}
 use Rattle.rings.proofs.tally.count_assembly.Tie as tie
@@ -15,16 +15,16 @@ add-assembly-requires c κs = let (found, ordered, all, smallest) = c .before .b
 count-sizes-requires : tie.Need-count-sizes-requires
 count-sizes-requires c κs =
     let combined = c .before .before .before .before .before .before in
-    let (kept, added) = combined .add-assembly .ensures in
+    let (kept, (long, added)) = combined .add-assembly .ensures in
     let (found, ordered, all, smallest) = combined .before .before .before .before .before .pre in
-    (alone-within found added (added .long), countable-less all (alone-few found added))
+    (alone-within found added (sets-long _ _ long), countable-less all (alone-few found added))
 
 count-sizes-requires-2 : tie.Need-count-sizes-requires-2
 count-sizes-requires-2 c κs =
     let combined = c .before .before .before .before .before .before .before .before .before .before in
-    let (kept, added) = combined .add-assembly .ensures in
+    let (kept, (long, added)) = combined .add-assembly .ensures in
     let (found, ordered, all, smallest) = combined .before .before .before .before .before .pre in
-    (alone-within found added (added .long), countable-less smallest (alone-few found added))
+    (alone-within found added (sets-long _ _ long), countable-less smallest (alone-few found added))
 
 same-length : tie.Need-same-length
 same-length c = search needs
@@ -36,37 +36,40 @@ returns : tie.Need-returns
 returns c =
     let counted = c .before .before .before .before in
     let combined = counted .before .before .before .before .before .before .before in
-    let (kept, added) = combined .add-assembly .ensures in
+    let (kept, (long, added)) = combined .add-assembly .ensures in
     let (found, ordered, all, smallest) = combined .before .before .before .before .before .pre in
-    (added .long, (kept, both-one added (counted .count-sizes .ensures) (c .before .before .before .if1 .taken) (found .some) (c .count-sizes2 .ensures)))
+    both-one added (counted .count-sizes .ensures) (c .before .before .before .if1 .taken) (found .some) (c .count-sizes2 .ensures)
 
 order-rings-requires : tie.Need-order-rings-requires
 order-rings-requires c κs =
     let combined = c .before .before .before .before .before .before .before .before .before .before in
-    let (kept, added) = combined .add-assembly .ensures in
+    let (kept, (long, added)) = combined .add-assembly .ensures in
     let (found, ordered, all, smallest) = combined .before .before .before .before .before .pre in
-    (alone-within found added (added .long), alone-within ordered added kept)
+    (alone-within found added (sets-long _ _ long), alone-within ordered added (sets-long _ _ kept))
 
 size-requires : tie.Need-size-requires
 size-requires c κs = search needs
 
+slice-aggregate-smallest-of : tie.Need-slice-aggregate-smallest-of
+slice-aggregate-smallest-of c = search needs
+
 smallest-of-requires : tie.Need-smallest-of-requires
 smallest-of-requires c κs =
     let sorted = c .before .before .before .before .before in
-    let (long, list) = sorted .order-rings .ensures in
+    let (same, list) = sorted .order-rings .ensures in
     let combined = sorted .before .before .before .before .before .before .before .before .before .before .before in
-    let (kept, added) = combined .add-assembly .ensures in
+    let (kept, (long, added)) = combined .add-assembly .ensures in
     let start = combined .before .before .before .before .before in
-    let (is, few) = c .before .size .ensures in
-    listed-choosable (combined-listed {lent = now (start .args .ordered)} added (long ∙ kept) list) few
-    (alone-spanned (now (start .args .rings)) _ (ring-lt (start .args .members) (search needs)) is) refl
+    let (found, ordered, all, smallest) = start .pre in
+    alone-choosable ordered added (ring-lt (start .args .members) (search needs)) (c .before .size .ensures .0)
+    (alone-within ordered added (sets-long _ _ (same ∙ kept))) list (sets-whole maxBonds _ refl)
 
 slice-aggregate-count-sizes : tie.Need-slice-aggregate-count-sizes
 slice-aggregate-count-sizes c = search needs
 
 count-sizes-requires-3 : tie.Need-count-sizes-requires-3
 count-sizes-requires-3 c κs =
-    let chosen = c .before .before in
+    let chosen = c .before .before .before in
     let s = chosen .smallest-of .ensures in
     let sorted = chosen .before .before .before .before .before .before in
     let combined = sorted .before .before .before .before .before .before .before .before .before .before .before in
@@ -81,11 +84,12 @@ same-length-4 c = search needs
 
 returns-2 : tie.Need-returns-2
 returns-2 c =
-    let sorted = c .before .before .before .before .before .before .before .before .before in
-    let (long, list) = sorted .order-rings .ensures in
+    let chosen = c .before .before .before .before in
+    let sorted = chosen .before .before .before .before .before .before in
+    let (same, list) = sorted .order-rings .ensures in
     let counted = sorted .before .before .before .before in
-    let (kept, added) = counted .before .before .before .before .before .before .before .add-assembly .ensures in
-    (added .long, (long ∙ kept, both-chosen added (counted .count-sizes .ensures) list (c .before .before .before .smallest-of .ensures) (c .count-sizes3 .ensures)))
+    let (kept, (long, added)) = counted .before .before .before .before .before .before .before .add-assembly .ensures in
+    both-chosen added (counted .count-sizes .ensures) list (chosen .smallest-of .ensures) (c .count-sizes3 .ensures)
 
 pub count-assembly-spec : {M : Type 1} → statement M
 count-assembly-spec =
@@ -99,6 +103,7 @@ count-assembly-spec =
     returns
     order-rings-requires
     size-requires
+    slice-aggregate-smallest-of
     smallest-of-requires
     slice-aggregate-count-sizes
     count-sizes-requires-3

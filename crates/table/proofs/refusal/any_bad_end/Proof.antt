@@ -1,5 +1,4 @@
--- A search: before each turn no bond tried so far names an atom not below the count.
--- Assumes nothing.
+-- A search: before each turn both ends of every bond tried so far are below the atom count. Assumes nothing.
 use mathlib.Core.Path.{_≡_}
 use mathlib.Core.Bool.{false}
 use Prim.Native.Nat.{_≤_, _/_, _-_}

@@ -1,5 +1,4 @@
--- A search: before each turn no bond tried so far joins an atom to itself.
--- Assumes nothing.
+-- A search: before each turn no bond tried so far joins an atom to itself. Assumes nothing.
 use mathlib.Core.Path.{_≡_}
 use mathlib.Core.Bool.{false}
 use Prim.Native.Nat.{_≤_, _/_, _-_}

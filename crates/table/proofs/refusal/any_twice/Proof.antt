@@ -1,59 +1,53 @@
--- A search: before each turn each set holds the atoms that bonds below k join to its atom, and no bond tried so far has the two atoms of
--- one before it. Assumes nothing.
+-- A search: before each turn each row holds the bonds tried so far that meet its atom, and none of these has the two atoms of another.
+-- Assumes nothing.
 use mathlib.Core.Path.{_≡_, refl}
 use mathlib.Core.Bool.{false}
 use Prim.Native.Nat.{_/_, _-_}
 use native.Mathlib.Omega.{arith}
 use borrow.Author.Needs.{needs}
 use lib.ListN.{length, getD-replicate}
-use Rattle.sets.specs.Atom.{noAtoms}
+use Rattle.sets.specs.Bond.{noBonds}
 use Rattle.definitions.specs.Search.{some?}
 use Rattle.definitions.specs.Table.{maxAtoms, seenBefore?}
 use Rattle.definitions.proofs.Tests.{some-none, some-more, some-found, some-end}
 use Rattle.table.specs.Ends.{bondsAlone}
-use Rattle.table.proofs.Bonding.{Neared, neared-none, neared-more}
-use Rattle.table.proofs.Doubling.{neared-seen}
+use Rattle.table.proofs.Meeting.{Rowed, rowed-none, rowed-more}
+use Rattle.table.proofs.Doubling.{rowed-seen}
 use Rattle.table.proofs.refusal.any_twice.Statement.{statement}
 use Rattle.table.proofs.refusal.any_twice.Tie as tie
 
 abbrev Inv-loop : tie.InvT-loop
-Inv-loop bonds near₀ k₀ near k = Neared bonds near k × (some? k (seenBefore? (bondsAlone bonds)) ≡ false)
+Inv-loop bonds rows₀ k₀ rows k = Rowed bonds rows k × (some? k (seenBefore? (bondsAlone bonds)) ≡ false)
 
 abbrev μ-loop : tie.MeasureT-loop
-μ-loop bonds near₀ k₀ near k = length bonds / 2 - k
+μ-loop bonds rows₀ k₀ rows k = length bonds / 2 - k
 
 loop-holds : tie.Need-loop-holds Inv-loop μ-loop
-loop-holds c = (neared-none _ _ refl (λ a h. getD-replicate maxAtoms a noAtoms noAtoms h), some-none _)
+loop-holds c = (rowed-none _ _ refl (λ a h. getD-replicate maxAtoms a noBonds noBonds h), some-none _)
 
-mul-end-at : tie.Need-mul-end-at Inv-loop μ-loop
-mul-end-at c = search needs
+ends-of-requires : tie.Need-ends-of-requires Inv-loop μ-loop
+ends-of-requires c κs = search needs
 
-end-at-requires : tie.Need-end-at-requires Inv-loop μ-loop
-end-at-requires c κs = search needs
+mul-meets : tie.Need-mul-meets Inv-loop μ-loop
+mul-meets c = search needs
 
-mul-end-at-2 : tie.Need-mul-end-at-2 Inv-loop μ-loop
-mul-end-at-2 c = search needs
+array-copy-out-meets : tie.Need-array-copy-out-meets Inv-loop μ-loop
+array-copy-out-meets c = search needs
 
-add-end-at : tie.Need-add-end-at Inv-loop μ-loop
-add-end-at c = search needs
+mul-meets-2 : tie.Need-mul-meets-2 Inv-loop μ-loop
+mul-meets-2 c = search needs
 
-end-at-requires-2 : tie.Need-end-at-requires-2 Inv-loop μ-loop
-end-at-requires-2 c κs = search needs
+array-copy-out-meets-2 : tie.Need-array-copy-out-meets-2 Inv-loop μ-loop
+array-copy-out-meets-2 c = search needs
 
-mul-has : tie.Need-mul-has Inv-loop μ-loop
-mul-has c = search needs
-
-array-copy-out-has : tie.Need-array-copy-out-has Inv-loop μ-loop
-array-copy-out-has c = search needs
-
-has-requires : tie.Need-has-requires Inv-loop μ-loop
-has-requires c κs = search needs
+meets-requires : tie.Need-meets-requires Inv-loop μ-loop
+meets-requires c κs = search needs
 
 returns : tie.Need-returns Inv-loop μ-loop
 returns c =
-    let ends = c .before .before .before in
-    let seen = neared-seen (ends .before .before .before .loop .inv .0) (ends .before .end-at .ensures .0) (ends .end-at2 .ensures .0) (ends .before .end-at .ensures .1) (c .before .has .ensures) in
-    some-found _ (omega arith) seen (c .if1 .taken)
+    let ends = c .before .before .before .before in
+    let turn = ends .before .before in
+    some-found _ (omega arith) (rowed-seen (turn .loop .inv .0) (turn .before .before .pre .1) (omega arith) (ends .ends-of .ensures .0) (ends .ends-of .ensures .1) (c .before .meets .ensures)) (c .if1 .taken)
 
 mul-with : tie.Need-mul-with Inv-loop μ-loop
 mul-with c = search needs
@@ -64,11 +58,11 @@ array-copy-out-with c = search needs
 with-requires : tie.Need-with-requires Inv-loop μ-loop
 with-requires c κs = search needs
 
-mul-near : tie.Need-mul-near Inv-loop μ-loop
-mul-near c = search needs
+mul-rows : tie.Need-mul-rows Inv-loop μ-loop
+mul-rows c = search needs
 
-array-set-from-near : tie.Need-array-set-from-near Inv-loop μ-loop
-array-set-from-near c = search needs
+array-set-from-rows : tie.Need-array-set-from-rows Inv-loop μ-loop
+array-set-from-rows c = search needs
 
 mul-with-2 : tie.Need-mul-with-2 Inv-loop μ-loop
 mul-with-2 c = search needs
@@ -79,11 +73,11 @@ array-copy-out-with-2 c = search needs
 with-requires-2 : tie.Need-with-requires-2 Inv-loop μ-loop
 with-requires-2 c κs = search needs
 
-mul-near-2 : tie.Need-mul-near-2 Inv-loop μ-loop
-mul-near-2 c = search needs
+mul-rows-2 : tie.Need-mul-rows-2 Inv-loop μ-loop
+mul-rows-2 c = search needs
 
-array-set-from-near-2 : tie.Need-array-set-from-near-2 Inv-loop μ-loop
-array-set-from-near-2 c = search needs
+array-set-from-rows-2 : tie.Need-array-set-from-rows-2 Inv-loop μ-loop
+array-set-from-rows-2 c = search needs
 
 add-k : tie.Need-add-k Inv-loop μ-loop
 add-k c = search needs
@@ -93,16 +87,18 @@ loop-less c = search needs
 
 loop-again : tie.Need-loop-again Inv-loop μ-loop
 loop-again c =
-    let test = c .before .before .before .before in
-    let ends = test .before .before .before in
-    let head = ends .before .before .before in
-    let seen = neared-seen (head .loop .inv .0) (ends .before .end-at .ensures .0) (ends .end-at2 .ensures .0) (ends .before .end-at .ensures .1) (test .before .has .ensures) in (
-      neared-more (head .loop .inv .0) (omega arith) (ends .before .end-at .ensures .0) (ends .end-at2 .ensures .0) (ends .before .end-at .ensures .1) (ends .end-at2 .ensures .1) (c .before .before .with .ensures) (c .with2 .ensures),
-      some-more _ (head .loop .inv .1) seen (test .if1 .left),
+    let new = c .before .before .before .before in
+    let ends = new .before .before .before .before in
+    let turn = ends .before .before in
+    let asked = turn .before .before .pre in
+    let a = ends .ends-of .ensures .0 in
+    let b = ends .ends-of .ensures .1 in (
+      rowed-more (turn .loop .inv .0) (asked .0) (omega arith) a b (c .before .before .with .ensures) (c .with2 .ensures),
+      some-more _ (turn .loop .inv .1) (rowed-seen (turn .loop .inv .0) (asked .1) (omega arith) a b (new .before .meets .ensures)) (new .if1 .left),
     )
 
 returns-2 : tie.Need-returns-2 Inv-loop μ-loop
-returns-2 c = some-end _ (c .before .loop .inv .0 .within) (c .loop-test .left) (c .before .loop .inv .1)
+returns-2 c = some-end _ (c .before .loop .inv .0 .within) (omega arith) (c .before .loop .inv .1)
 
 pub any-twice-spec : {M : Type 1} → statement M
 any-twice-spec =
@@ -111,25 +107,23 @@ any-twice-spec =
     Inv-loop
     μ-loop
     loop-holds
-    mul-end-at
-    end-at-requires
-    mul-end-at-2
-    add-end-at
-    end-at-requires-2
-    mul-has
-    array-copy-out-has
-    has-requires
+    ends-of-requires
+    mul-meets
+    array-copy-out-meets
+    mul-meets-2
+    array-copy-out-meets-2
+    meets-requires
     returns
     mul-with
     array-copy-out-with
     with-requires
-    mul-near
-    array-set-from-near
+    mul-rows
+    array-set-from-rows
     mul-with-2
     array-copy-out-with-2
     with-requires-2
-    mul-near-2
-    array-set-from-near-2
+    mul-rows-2
+    array-set-from-rows-2
     add-k
     loop-less
     loop-again

@@ -1,5 +1,4 @@
--- Both bytes fit a u64, so they are compared with the atom count as they are.
--- Assumes nothing.
+-- Both bytes fit a u64, so they are compared with the atom count as they are. Assumes nothing.
 use Prim.Native.Nat.{_+_, _*_}
 use native.Mathlib.Omega.{arith}
 use borrow.Author.Needs.{needs}

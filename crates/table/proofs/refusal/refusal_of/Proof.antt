@@ -4,9 +4,9 @@ use mathlib.Core.Path.{sym}
 use mathlib.Core.Logic.{inl, inr}
 use native.Mathlib.Omega.{arith}
 use borrow.Author.Needs.{needs}
-use Rattle.definitions.specs.Table.{seenBefore?}
+use Rattle.definitions.specs.Table.{table, seenBefore?}
 use Rattle.definitions.proofs.Refusals.{refused-odd, refused-atoms, refused-bonds}
-use Rattle.table.proofs.Tried.{told-end, told-fitting, told-self, told-twice, told-accepted}
+use Rattle.table.proofs.Tried.{tried-numbers, tried-more, tried-found, tried-all, tried-fitting, tried-two}
 use Rattle.table.proofs.refusal.refusal_of.Statement.{statement}
 use Rattle.table.proofs.refusal.refusal_of.Tie as tie
 
@@ -26,32 +26,49 @@ any-bad-end-requires : tie.Need-any-bad-end-requires
 any-bad-end-requires c κs = search needs
 
 returns-5 : tie.Need-returns-5
-returns-5 c = told-end _ (omega arith) (c .before .any-bad-end .ensures) (c .if5 .taken)
+returns-5 c = tried-found (tried-numbers _ (omega arith)) (c .before .any-bad-end .ensures) (c .if5 .taken)
 
 any-self-bond-requires : tie.Need-any-self-bond-requires
-any-self-bond-requires c κs = search needs
+any-self-bond-requires c κs =
+    let start = c .before .before .before .before .before .before .before in
+    let M = table (start .args .atoms) (start .args .bonds .now) in
+    tried-fitting (tried-more (tried-numbers M (omega arith)) (c .before .any-bad-end .ensures) (c .if5 .left))
 
 returns-6 : tie.Need-returns-6
 returns-6 c =
     let ends = c .before .before in
-    told-self _ (omega arith) (ends .before .any-bad-end .ensures) (ends .if5 .left) (c .before .any-self-bond .ensures) (c .if6 .taken)
+    tried-found (tried-more (tried-numbers _ (omega arith)) (ends .before .any-bad-end .ensures) (ends .if5 .left)) (c .before .any-self-bond .ensures) (c .if6 .taken)
 
 any-twice-requires : tie.Need-any-twice-requires
-any-twice-requires c κs = let ends = c .before .before in told-fitting _ (omega arith) (ends .before .any-bad-end .ensures) (ends .if5 .left)
+any-twice-requires c κs =
+    let ends = c .before .before in
+    let start = ends .before .before .before .before .before .before .before in
+    let M = table (start .args .atoms) (start .args .bonds .now) in
+    let inside = tried-more (tried-numbers M (omega arith)) (ends .before .any-bad-end .ensures) (ends .if5 .left) in
+    (tried-fitting inside, tried-two (tried-more inside (c .before .any-self-bond .ensures) (c .if6 .left)))
 
 returns-7 : tie.Need-returns-7
 unfolding seenBefore?
 returns-7 c =
     let selfs = c .before .before in
     let ends = selfs .before .before in
-    told-twice _ (omega arith) (ends .before .any-bad-end .ensures) (ends .if5 .left) (selfs .before .any-self-bond .ensures) (selfs .if6 .left) (c .before .any-twice .ensures) (c .if7 .taken)
+    tried-found
+    (tried-more
+    (tried-more (tried-numbers _ (omega arith)) (ends .before .any-bad-end .ensures) (ends .if5 .left))
+    (selfs .before .any-self-bond .ensures) (selfs .if6 .left))
+    (c .before .any-twice .ensures) (c .if7 .taken)
 
 returns-8 : tie.Need-returns-8
 unfolding seenBefore?
 returns-8 c =
     let selfs = c .before .before in
     let ends = selfs .before .before in
-    told-accepted _ (omega arith) (ends .before .any-bad-end .ensures) (ends .if5 .left) (selfs .before .any-self-bond .ensures) (selfs .if6 .left) (c .before .any-twice .ensures) (c .if7 .left)
+    tried-all
+    (tried-more
+    (tried-more
+    (tried-more (tried-numbers _ (omega arith)) (ends .before .any-bad-end .ensures) (ends .if5 .left))
+    (selfs .before .any-self-bond .ensures) (selfs .if6 .left))
+    (c .before .any-twice .ensures) (c .if7 .left))
 
 pub refusal-of-spec : {M : Type 1} → statement M
 refusal-of-spec =

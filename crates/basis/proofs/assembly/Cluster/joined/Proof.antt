@@ -1,5 +1,4 @@
--- The ring is taken in where it shares a bond.
--- Assumes nothing.
+-- The ring is taken in where it shares a bond. Assumes nothing.
 use borrow.Author.Needs.{needs}
 use Rattle.sets.specs.Bond.{bits}
 use Rattle.basis.specs.Clusters.{groupOf}

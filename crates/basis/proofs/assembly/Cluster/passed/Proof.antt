@@ -1,5 +1,4 @@
--- Before each turn the rings left below i share no bond with the cluster, or the pass has added a ring.
--- Assumes nothing.
+-- Before each turn the rings left below i share no bond with the cluster, or the pass has added a ring. Assumes nothing.
 use mathlib.Core.Path.{sym, _∙_}
 use Prim.Native.Nat.{_-_, _<_}
 use native.Mathlib.Omega.{arith}
@@ -7,7 +6,9 @@ use lib.ListN.{take}
 use lib.Seq.{getD-take}
 use denote.Ref.{now}
 use borrow.Author.Needs.{needs}
+use Rattle.sets.specs.Lists.{setsIn}
 use Rattle.sets.proofs.Upto.{next-rises}
+use Rattle.sets.proofs.Lists.{sets-whole}
 use Rattle.definitions.specs.Table.{maxBonds}
 use Rattle.basis.specs.Clusters.{groupOf}
 use Rattle.basis.proofs.Grouping.{Passing, passing-none, passing-turn, passing-all}
@@ -15,7 +16,7 @@ use Rattle.basis.proofs.assembly.Cluster.passed.Statement.{statement}
 use Rattle.basis.proofs.assembly.Cluster.passed.Tie as tie
 
 abbrev Inv-loop : tie.InvT-loop
-Inv-loop rings count cluster₀ i₀ cluster i = Passing (take count rings) (groupOf cluster₀) (groupOf cluster) i
+Inv-loop rings count cluster₀ i₀ cluster i = Passing (take count (setsIn rings)) (groupOf cluster₀) (groupOf cluster) i
 
 abbrev μ-loop : tie.MeasureT-loop
 μ-loop rings count cluster₀ i₀ cluster i = maxBonds - i
@@ -26,14 +27,10 @@ next-requires c κs = search needs
 loop-holds : tie.Need-loop-holds Inv-loop μ-loop
 loop-holds c = passing-none _ _ (c .next .ensures)
 
-mul-of-word : tie.Need-mul-of-word Inv-loop μ-loop
-mul-of-word c = search needs
-
-element-copy-out-of-word : tie.Need-element-copy-out-of-word Inv-loop μ-loop
-element-copy-out-of-word c = search needs
-
-of-word-requires : tie.Need-of-word-requires Inv-loop μ-loop
-of-word-requires c κs = search needs
+at-requires : tie.Need-at-requires Inv-loop μ-loop
+at-requires c κs =
+    let start = c .before .before .before .before in
+    omega (arith, start .pre .0, sets-whole maxBonds (start .args .rings .now) (search needs))
 
 joined-requires : tie.Need-joined-requires Inv-loop μ-loop
 joined-requires c κs = search needs
@@ -55,7 +52,7 @@ loop-again c =
     let turn = c .before .before .before .before in
     let at = turn .before in
     let start = at .before .before in
-    let ring = c .before .before .of-word .ensures ∙ sym (getD-take (start .args .count) (now (start .args .rings)) (at .loop .i) 0 (turn .loop-test .taken)) in
+    let ring = c .before .before .at .ensures ∙ sym (getD-take (start .args .count) (setsIn (start .args .rings .now)) (at .loop .i) 0 (turn .loop-test .taken)) in
     passing-turn (at .loop .inv) (omega (arith, start .pre .0, turn .loop-test .taken)) ring (c .before .joined .ensures) (c .next2 .ensures)
 
 returns : tie.Need-returns Inv-loop μ-loop
@@ -69,9 +66,7 @@ passed-spec =
     μ-loop
     next-requires
     loop-holds
-    mul-of-word
-    element-copy-out-of-word
-    of-word-requires
+    at-requires
     joined-requires
     add-next
     next-requires-2

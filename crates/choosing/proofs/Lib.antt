@@ -1,0 +1,3 @@
+-- The laws of choosing.
+--     Selecting    the smallest basis by elimination
+pub mod Selecting

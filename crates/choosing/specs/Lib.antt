@@ -1,0 +1,2 @@
+-- The rings taken so far, and the sets kept to test the next.
+pub mod Elimination

@@ -1,4 +1,0 @@
--- The definitions that the contracts of this crate cite beside those of `definitions`.
-pub mod Sizes
-pub mod Text
-pub mod Pairs

@@ -1,0 +1,2 @@
+-- The laws of the lists of rings.
+pub mod Laws

@@ -1,0 +1,2 @@
+-- The definition that the contracts of this crate cite beside those of `definitions` and `lent`.
+pub mod Spaced
