@@ -1,41 +1,40 @@
 -- What is known of the rings of a Basis and of their assemblies, and of the sets of Assemblies. Assumes nothing.
-use mathlib.Core.Path.{_≡_, sym, ap, _∙_}
+use mathlib.Core.Path.{_≡_, refl, sym, ap, _∙_}
 use mathlib.Core.Bool.{Bool, true, _&&_}
-use mathlib.Core.List.{List, map}
-use Prim.Native.Nat.{ℕ, _≤_, _<_}
+use mathlib.Core.List.{List, [], map}
+use Prim.Native.Nat.{ℕ, _*_, _≤_, _<_}
 use native.Mathlib.Omega.{arith}
-use borrow.Author.Tests.{lt-ltb, le-ltb, ltb-true, ltb-false}
+use borrow.Author.Tests.{lt-ltb, le-ltb, ltb-true, ltb-false, eqb-true, eqb-false}
 use lib.Dec.{eqb, ltb}
-use lib.ListN.{length, getD, length-take}
+use lib.ListN.{length, getD, replicate}
 use lib.Seq.{getD-take}
 use Rattle.sets.specs.Bits.{has, size}
 use Rattle.sets.specs.Ring.{bits, noRings, room}
 use Rattle.sets.specs.declared.ring.RingSet.{RingSet}
-use Rattle.sets.specs.Lists.{setsIn}
+use Rattle.sets.specs.Lists.{setsIn, words}
+use Rattle.sets.proofs.Lists.{sets-blank}
 use Rattle.sets.proofs.Machine.{no-rings}
 use Rattle.sets.proofs.Laws.{has-zero}
 use Rattle.definitions.specs.Search.{picked, gather}
-use Rattle.definitions.specs.Table.{Table}
+use Rattle.definitions.specs.Table.{Table, refusal, maxBonds}
 use Rattle.definitions.specs.Basis.{basisRings}
 use Rattle.definitions.specs.Assembly.{assemblies, assemblyCount, ringsIn}
+use Rattle.definitions.specs.Answer.{outcomeOf, counted}
 use Rattle.definitions.proofs.Tests.{by, clashes, and-both}
-use Rattle.definitions.proofs.Lists.{has-setOf, size-setOf, listed-ext, gather-ext, getD-map}
+use Rattle.definitions.proofs.Lists.{has-setOf, size-setOf, listed-ext, gather-ext, getD-map, getD-same}
 use Rattle.definitions.proofs.Passing.{listed-gap}
 use Rattle.definitions.proofs.Linking.{number, length-assemblies, length-rings-in}
-use Rattle.basis.specs.Held.{ringsOf, BasisOf, membersOf, AssembliesOf}
+use Rattle.answers.proofs.Answers.{check-refused, check-counted}
+use Rattle.basis.specs.Held.{ringsOf, Holds, BasisOf, membersOf, AssembliesOf}
 use Rattle.basis.specs.declared.basis.Basis.{Basis}
 use Rattle.basis.specs.declared.assembly.Assemblies.{Assemblies}
 
 -- ---- a Basis
 
-module _ {M : Table} {b : Basis} (h : BasisOf M b) where
+module _ {M : Table} {b : Basis} (h : Holds M b) where
   -- ring i is the set at place i
   pub ring-at : (i : ℕ) → i < b .count → getD (setsIn (b .rings)) i 0 ≡ getD (basisRings M) i 0
   ring-at i l = sym (getD-take (b .count) (setsIn (b .rings)) i 0 l) ∙ ap (λ (rs : List ℕ). getD rs i 0) (h .rings)
-
-  -- the list has room for them
-  pub held-room : b .count ≤ length (setsIn (b .rings))
-  held-room = omega (arith, h .count, ap length (h .rings), length-take (b .count) (setsIn (b .rings)))
 
   -- the assemblies of its rings are those of the table
   pub held-assemblies : {s : Assemblies} → AssembliesOf (ringsOf b) s → AssembliesOf (basisRings M) s
@@ -46,14 +45,51 @@ module _ {M : Table} {b : Basis} (h : BasisOf M b) where
   unfolding assemblies
   assemblies-counted = h .count ∙ sym (length-assemblies (basisRings M))
 
--- two of one table count the same, and the same sets stand at every place
-pub basis-same : {M : Table} {b c : Basis} → BasisOf M b → BasisOf M c → (b .count ≡ c .count) × ((i : ℕ) → getD (setsIn (b .rings)) i 0 ≡ getD (setsIn (c .rings)) i 0)
-basis-same {b = b} {c = c} h k =
-    let e = h .count ∙ sym (k .count) in (
+-- of a refused table there is nothing
+pub basis-refused : {M : Table} {number : ℕ} → number ≡ refusal M → 0 < number → BasisOf M (record { number = number; rings = replicate (maxBonds * words) 0; count = 0 })
+basis-refused given h = record {
+  number = given;
+  refused = λ n. (refl, λ i. ap (λ (l : List ℕ). getD l i 0) (sets-blank maxBonds) ∙ getD-same maxBonds i 0);
+  accepted = λ z. absurd (omega arith);
+}
+
+-- of an accepted one the basis rings are held
+pub basis-accepted : {M : Table} {b : Basis} → b .number ≡ refusal M → b .number ≤ 0 → Holds M b → BasisOf M b
+basis-accepted given h held = record { number = given; refused = λ n. absurd (n (omega arith)); accepted = λ z. held }
+
+module _ {M : Table} {b : Basis} (h : BasisOf M b) where
+  -- no refusal is given: the basis rings are held
+  pub basis-held : b .number ≤ 0 → Holds M b
+  basis-held z = h .accepted (omega (arith, h .number))
+
+  -- the number and the count are those of the table check
+  pub basis-told : outcomeOf (b .number) (b .count) [] ≡ counted (refusal M) (length (basisRings M))
+  basis-told =
+      by (eqb (refusal M) 0)
+      (λ t. let e : b .number ≡ 0 = h .number ∙ eqb-true (refusal M) 0 t in
+      ap (λ (n : ℕ). outcomeOf n (b .count) []) e ∙ check-counted _ (h .number) (omega arith) (basis-held (omega arith) .count))
+      (λ t. let n = eqb-false (refusal M) 0 t in
+      ap (λ (k : ℕ). outcomeOf (b .number) k []) (h .refused n .0) ∙ check-refused _ (h .number) (omega (arith, h .number)))
+
+-- two hold the same: as many rings, and the same sets at every place
+abbrev pub SameRings : Basis → Basis → Type 0
+SameRings b c = (b .count ≡ c .count) × ((i : ℕ) → getD (setsIn (b .rings)) i 0 ≡ getD (setsIn (c .rings)) i 0)
+
+-- two that hold the basis rings of one table do
+pub holds-same : {M : Table} {b c : Basis} → Holds M b → Holds M c → SameRings b c
+holds-same {b = b} {c} p q =
+    let e = p .count ∙ sym (q .count) in (
       e,
-      λ i. by (ltb i (b .count)) (λ t. let l = ltb-true i (b .count) t in ring-at h i l ∙ sym (ring-at k i (omega arith)))
-          (λ t. let l = ltb-false i (b .count) t in h .blank i l ∙ sym (k .blank i (omega arith))),
+      λ i. by (ltb i (b .count)) (λ t. let l = ltb-true i (b .count) t in ring-at p i l ∙ sym (ring-at q i (omega arith)))
+          (λ t. let l = ltb-false i (b .count) t in p .blank i l ∙ sym (q .blank i (omega arith))),
     )
+
+-- two of one table have the same number and hold the same
+pub basis-same : {M : Table} {b c : Basis} → BasisOf M b → BasisOf M c → (b .number ≡ c .number) × SameRings b c
+basis-same {M} {b} {c} h k =
+    let same : SameRings b c = by (eqb (refusal M) 0) (λ t. let z = eqb-true (refusal M) 0 t in holds-same (h .accepted z) (k .accepted z))
+    (λ t. let n = eqb-false (refusal M) 0 t in (h .refused n .0 ∙ sym (k .refused n .0), λ i. h .refused n .1 i ∙ sym (k .refused n .1 i))) in
+    (h .number ∙ sym (k .number), same)
 
 -- ---- Assemblies
 
@@ -77,8 +113,12 @@ module _ {rs : List ℕ} {s : Assemblies} (h : AssembliesOf rs s) where
   pub members-size : (a : ℕ) → a < s .count → size (getD (membersOf s) a 0) ≡ length (ringsIn rs a)
   members-size a l = ap size (h .members a l) ∙ size-setOf (length rs) (λ i. eqb (number rs i) a) ∙ sym (length-rings-in rs a)
 
--- two of one list of basis rings count the same, and the same sets stand at every place
-pub assemblies-same : {rs : List ℕ} {s t : Assemblies} → AssembliesOf rs s → AssembliesOf rs t → (s .count ≡ t .count) × ((a : ℕ) → getD (membersOf s) a 0 ≡ getD (membersOf t) a 0)
+-- two hold the same: as many assemblies, and the same sets at every place
+abbrev pub SameAssemblies : Assemblies → Assemblies → Type 0
+SameAssemblies s t = (s .count ≡ t .count) × ((a : ℕ) → getD (membersOf s) a 0 ≡ getD (membersOf t) a 0)
+
+-- two of one list of basis rings do
+pub assemblies-same : {rs : List ℕ} {s t : Assemblies} → AssembliesOf rs s → AssembliesOf rs t → SameAssemblies s t
 assemblies-same {s = s} h k =
     let e = h .count ∙ sym (k .count) in (
       e,
@@ -88,7 +128,7 @@ assemblies-same {s = s} h k =
 
 -- ---- both
 
-module _ {M : Table} {b : Basis} {s : Assemblies} (h : BasisOf M b) (p : AssembliesOf (basisRings M) s) where
+module _ {M : Table} {b : Basis} {s : Assemblies} (h : Holds M b) (p : AssembliesOf (basisRings M) s) where
   -- the basis rings of an assembly stand at the places that its set names
   pub picked-rings : (a : ℕ) → a < s .count → picked (setsIn (b .rings)) (getD (membersOf s) a 0) ≡ ringsIn (basisRings M) a
   unfolding ringsIn

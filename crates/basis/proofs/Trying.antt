@@ -23,7 +23,7 @@ use Rattle.definitions.proofs.Paths.{fragments-more}
 use Rattle.definitions.proofs.Refusals.{Valid}
 use Rattle.basis.specs.Climbing.{Falling, Climbed, Climbs}
 use Rattle.basis.specs.Climbing.Climbed.{start, on}
-use Rattle.basis.specs.Held.{BasisOf}
+use Rattle.basis.specs.Held.{Holds}
 use Rattle.basis.proofs.Leading.{Leads, set-falling, leads-same, own-leads, climbed-low, climbs-number, settled-last, settled-leads, joined-leads}
 use Rattle.basis.proofs.Ways.{Between, between-none, between-turn, between-sum, between-more, round-between, round-ring}
 use Rattle.basis.proofs.Collecting.{Collected, collected-none, collected-skip, collected-take, collected-count}
@@ -196,7 +196,8 @@ module _ {M : Table} {lower ways rings : List ℕ} {n k : ℕ} (t : Tried M lowe
   tried-turn = (tried-ring, tried-join)
 
 -- after the last bond the rings are the basis rings
-pub tried-all : {M : Table} {lower ways rings : List ℕ} {n k : ℕ} → Valid M → Tried M lower ways (setsIn rings) n k → bonds M ≤ k → BasisOf M (record { rings = rings; count = n })
+pub tried-all : {M : Table} {lower ways rings : List ℕ} {number n k : ℕ} → Valid M → Tried M lower ways (setsIn rings) n k → bonds M ≤ k
+    → Holds M (record { number = number; rings = rings; count = n })
 unfolding basisRings
 tried-all {M} {rings = rings} {n = n} valid t h =
     let whole : take n (setsIn rings) ≡ listed (bonds M) (closure? M) (basisRing M) = t .found .list ∙ ap (λ (i : ℕ). listed i (closure? M) (basisRing M)) (le-antisymm (t .within) h) in

@@ -19,7 +19,7 @@ use Rattle.definitions.proofs.Tests.{by, clashes, and-both, both-and, same-test
 use Rattle.definitions.proofs.Passing.{Passed, passed-rises}
 use Rattle.definitions.proofs.Linking.{number, length-assemblies, number-below}
 use Rattle.lent.proofs.Appending.{over-length}
-use Rattle.basis.specs.Held.{ringsOf, BasisOf, membersOf, AssembliesOf}
+use Rattle.basis.specs.Held.{ringsOf, Holds, membersOf, AssembliesOf}
 use Rattle.basis.specs.Clusters.{Numbered}
 use Rattle.basis.specs.declared.assembly.Assemblies.{Assemblies}
 use Rattle.basis.specs.declared.basis.Basis.{Basis}
@@ -69,12 +69,12 @@ marked-all {a = a} {i = i} {l = l} s below h q = record {
 -- ---- the assemblies in order
 
 -- the rings of the assemblies below a are passed
-abbrev pub Told : List ℕ → ℕ → List ℕ → List ℕ → Type 0
-Told rs a before after = Numbered (λ j. ltb j (length rs) && ltb (number rs j) a) (number rs) before after
+abbrev pub Assigned : List ℕ → ℕ → List ℕ → List ℕ → Type 0
+Assigned rs a before after = Numbered (λ j. ltb j (length rs) && ltb (number rs j) a) (number rs) before after
 
 -- before the first assembly the list is as it was
-pub told-none : (rs l : List ℕ) → Told rs 0 l l
-told-none rs l = numbered-none _ _ l (λ j. rw (le-ltb (number rs j) 0 (omega arith)) (and-false (ltb j (length rs))))
+pub assigned-none : (rs l : List ℕ) → Assigned rs 0 l l
+assigned-none rs l = numbered-none _ _ l (λ j. rw (le-ltb (number rs j) 0 (omega arith)) (and-false (ltb j (length rs))))
 
 -- a number is below a + 1 where it is a or below a
 turn : (t : Bool) (x a y : ℕ) → cond (t && eqb x a) a (cond (t && ltb x a) x y) ≡ cond (t && ltb x (a + 1)) x y
@@ -85,9 +85,9 @@ turn true x a y =
     (by (ltb x a) (λ u. rw (u, lt-ltb x (a + 1) (omega (arith, ltb-true x a u)))) (λ u. rw (u, le-ltb x (a + 1) (omega (arith, ltb-false x a u))))))
 
 -- the rings of the next assembly have its number
-pub told-more : {rs : List ℕ} {s : Assemblies} {a : ℕ} {l out new : List ℕ} → AssembliesOf rs s → a < s .count → Told rs a l out
-    → Numbered (has (bits (getD (s .members) a noRings))) (λ j. a) out new → Told rs (a + 1) l new
-told-more {rs} {s} {a} {l} {out} o h q w = record {
+pub assigned-more : {rs : List ℕ} {s : Assemblies} {a : ℕ} {l out new : List ℕ} → AssembliesOf rs s → a < s .count → Assigned rs a l out
+    → Numbered (has (bits (getD (s .members) a noRings))) (λ j. a) out new → Assigned rs (a + 1) l new
+assigned-more {rs} {s} {a} {l} {out} o h q w = record {
   long = w .long ∙ q .long;
   at = λ j.
       w .at j ∙ rw (ap (λ (t : ℕ). has t j) (sym (members-at (s .members) a)) ∙ members-has o a j h, q .at j)
@@ -95,9 +95,9 @@ told-more {rs} {s} {a} {l} {out} o h q w = record {
 }
 
 -- after the last assembly each ring has its number
-pub told-all : {rs : List ℕ} {s : Assemblies} {a : ℕ} {l out : List ℕ} → AssembliesOf rs s → length rs ≤ length l → s .count ≤ a → Told rs a l out → out ≡ over (assembliesOf rs) l
+pub assigned-all : {rs : List ℕ} {s : Assemblies} {a : ℕ} {l out : List ℕ} → AssembliesOf rs s → length rs ≤ length l → s .count ≤ a → Assigned rs a l out → out ≡ over (assembliesOf rs) l
 unfolding over
-told-all {rs} {s} {a} {l} {out} o room h q =
+assigned-all {rs} {s} {a} {l} {out} o room h q =
     ext-getD 0 out (over (assembliesOf rs) l) (q .long ∙ sym (over-length (assembliesOf rs) l (omega (arith, long))))
     (λ j i. by (ltb j (length rs)) (λ t. q .at j ∙ here j (ltb-true j (length rs) t)) (λ t. q .at j ∙ rw t (past j (ltb-false j (length rs) t))))
   where
@@ -118,7 +118,7 @@ told-all {rs} {s} {a} {l} {out} o room h q =
 
 -- ---- the assemblies of a table
 
-module _ {M : Table} {b : Basis} {s : Assemblies} (h : BasisOf M b) (o : AssembliesOf (ringsOf b) s) (lent : List ℕ) (room : b .count ≤ length lent) where
+module _ {M : Table} {b : Basis} {s : Assemblies} (h : Holds M b) (o : AssembliesOf (ringsOf b) s) (lent : List ℕ) (room : b .count ≤ length lent) where
   -- there is a place for each ring of an assembly
   pub assemblies-places : (a i : ℕ) → has (getD (membersOf s) a 0) i ≡ true → i < length lent
   assemblies-places a i e = omega (arith, members-below (held-assemblies h o) a i e, h .count)

@@ -5,6 +5,7 @@ use answers::MAX_BONDS;
 use sets::BondSet;
 use sets::RingSet;
 use sets::list::sets_in;
+use sets::list::sets_up_to;
 ghost use mathlib.Core.Path.{_≡_};
 ghost use mathlib.Core.Bool.{true};
 ghost use mathlib.Core.List.{List};
@@ -83,18 +84,18 @@ fn cluster_of(rings: &[u64; BASIS_WORDS], count: usize, first: usize, left: Ring
     cluster
 }
 
-// The assemblies of the first basis rings of a list.
+// The assemblies of the first basis rings of a list, or of all of them where a list has no more.
 pub fn assemblies_of(rings: &[u64; BASIS_WORDS], count: usize) -> Assemblies
-    requires { ⌜ count ≤ maxBonds ⌝ }
     ensures { λ r. ⌜ AssembliesOf (take count (setsIn (now (rings .entry)))) r ⌝ }
 {
     let places = sets_in(rings);
+    let known = sets_up_to(rings, count);
     let mut members = [RingSet::EMPTY; MAX_BONDS];
     let mut assemblies: usize = 0;
-    let mut left = RingSet::below(count);
+    let mut left = RingSet::below(known);
     let mut first = left.next(0);
     while first < places {
-        let cluster = cluster_of(rings, count, first, left);
+        let cluster = cluster_of(rings, known, first, left);
         let found = cluster.members;
         members[assemblies] = found;
         assemblies += 1;

@@ -7,22 +7,30 @@ use answers::BASIS_WORDS;
 use answers::MAX_ATOMS;
 use sets::WORDS;
 use table::ends_of;
-ghost use mathlib.Core.Path.{_≡_};
-ghost use Rattle.definitions.specs.Table.{table, refusal};
+use table::refusal_of;
+ghost use Rattle.definitions.specs.Table.{table};
 ghost use Rattle.basis.specs.Held.{BasisOf};
 
-// The basis rings of a table in order of closure bonds: the first count sets of a list.
+// The number of the refusal, or 0 with the basis rings of a table in order of closure bonds: the first count sets of a list.
 pub struct Basis {
+    pub number: u8,
     pub rings: [u64; BASIS_WORDS],
     pub count: usize,
 }
 
-// The basis rings of an accepted table. The bonds are tried in order: one between two fragments makes them one, and one within a
-// fragment, with the ways from its ends to the first atom, is a basis ring.
+// The basis rings of a table. The bonds are tried in order: one between two fragments makes them one, and one within a fragment, with the
+// ways from its ends to the first atom, is a basis ring.
 pub fn basis_of(atoms: u64, bonds: &[u8]) -> Basis
-    requires { ⌜ refusal (table atoms (now bonds)) ≡ 0 ⌝ }
     ensures { λ r. ⌜ BasisOf (table atoms (now (bonds .entry))) r ⌝ }
 {
+    let number = refusal_of(atoms, bonds);
+    if number > 0 {
+        return Basis {
+            number,
+            rings: [0u64; BASIS_WORDS],
+            count: 0,
+        };
+    }
     let mut lower = apart(atoms as usize);
     let mut ways = [0u64; MAX_ATOMS * WORDS];
     let mut rings = [0u64; BASIS_WORDS];
@@ -43,5 +51,9 @@ pub fn basis_of(atoms: u64, bonds: &[u8]) -> Basis
         }
         k += 1;
     }
-    Basis { rings, count }
+    Basis {
+        number,
+        rings,
+        count,
+    }
 }

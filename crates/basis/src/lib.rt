@@ -21,40 +21,43 @@ ghost use Rattle.definitions.specs.Answer.{outcomeOf, counted, written, written
 
 // The table check: 0 and the number of basis rings, or the number of the refusal and 0.
 pub fn check(atoms: u64, bonds: &[u8]) -> Answer
-    ensures { λ r. ⌜ outcomeOf (r .number) (r .count) [] ≡ counted (refusal (table atoms (now (bonds .entry)))) (length (basisRings (table atoms (now (bonds .entry))))) ⌝ }
+    ensures answer { λ r. ⌜ outcomeOf (r .number) (r .count) [] ≡ counted (refusal (table atoms (now (bonds .entry)))) (length (basisRings (table atoms (now (bonds .entry))))) ⌝ }
+    ensures read { λ r. ⌜ now (bonds .exit) ≡ now (bonds .entry) ⌝ }
 {
-    let number = table::refusal_of(atoms, bonds);
-    if number == 0 {
-        let basis = basis_of(atoms, bonds);
-        return Answer {
-            number: 0,
-            count: basis.count,
-        };
+    let basis = basis_of(atoms, bonds);
+    Answer {
+        number: basis.number,
+        count: basis.count,
     }
-    Answer { number, count: 0 }
 }
 
 // The basis rings: sets as words, in order of closure bonds.
 pub fn basis_rings(atoms: u64, bonds: &[u8], out: &mut [u64]) -> Answer
-    ensures { λ r. ⌜ outcomeOf (r .number) (r .count) (now (out .exit)) ≡ writtenSets (refusal (table atoms (now (bonds .entry)))) (basisRings (table atoms (now (bonds .entry)))) (now (out .entry)) ⌝ }
+    ensures answer { λ r. ⌜ outcomeOf (r .number) (r .count) (now (out .exit)) ≡ writtenSets (refusal (table atoms (now (bonds .entry)))) (basisRings (table atoms (now (bonds .entry)))) (now (out .entry)) ⌝ }
+    ensures read { λ r. ⌜ now (bonds .exit) ≡ now (bonds .entry) ⌝ }
 {
-    let number = table::refusal_of(atoms, bonds);
-    if number > 0 {
-        return Answer { number, count: 0 };
-    }
     let basis = basis_of(atoms, bonds);
+    if basis.number > 0 {
+        return Answer {
+            number: basis.number,
+            count: 0,
+        };
+    }
     write_sets(&basis.rings, basis.count, out)
 }
 
 // The assemblies: for each basis ring the number of its assembly, in one byte.
 pub fn assemblies(atoms: u64, bonds: &[u8], out: &mut [u8]) -> Answer
-    ensures { λ r. ⌜ outcomeOf (r .number) (r .count) (now (out .exit)) ≡ written (refusal (table atoms (now (bonds .entry)))) (spec.assemblies (table atoms (now (bonds .entry)))) (now (out .entry)) ⌝ }
+    ensures answer { λ r. ⌜ outcomeOf (r .number) (r .count) (now (out .exit)) ≡ written (refusal (table atoms (now (bonds .entry)))) (spec.assemblies (table atoms (now (bonds .entry)))) (now (out .entry)) ⌝ }
+    ensures read { λ r. ⌜ now (bonds .exit) ≡ now (bonds .entry) ⌝ }
 {
-    let number = table::refusal_of(atoms, bonds);
-    if number > 0 {
-        return Answer { number, count: 0 };
-    }
     let basis = basis_of(atoms, bonds);
+    if basis.number > 0 {
+        return Answer {
+            number: basis.number,
+            count: 0,
+        };
+    }
     let rings = basis.count;
     if out.len() < rings {
         return Answer {

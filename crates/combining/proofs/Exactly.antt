@@ -28,9 +28,9 @@ use Rattle.spans.proofs.Spans.{Span, none, skip, add, Indep, empty, more, xor-c
 use Rattle.spans.proofs.Choice.{sum→span, span→sum, indep-sub, independent-iff-indep}
 use Rattle.cycles.proofs.Assemblies.{assembly-independent}
 use Rattle.cycles.proofs.Groups.{InGroup, ring-by-earlier, ring-in-group, group-unique}
-use Rattle.combining.specs.Gibbs.{group, clear?, ringsAmong, sumsFrom, ringsFrom, combined}
+use Rattle.combining.specs.Gibbs.{group, clear?, ringsAmong, ringsFrom, combined}
 use Rattle.combining.proofs.Combining.{clear-test}
-use Rattle.combining.proofs.Turns.{rings-snoc}
+use Rattle.combining.proofs.Turns.{sumsFrom, rings-snoc}
 
 -- what the combination finds in all assemblies of a list of basis rings, one after another
 unfoldable pub allCombined : List ℕ → List ℕ

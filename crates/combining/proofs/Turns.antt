@@ -21,8 +21,13 @@ use Rattle.cycles.proofs.Sums.{take-listed}
 use Rattle.lent.specs.Appended.{between, Room, Appended}
 use Rattle.lent.proofs.Appending.{appended-none, appended-as, appended-more}
 use Rattle.lent.proofs.Between.{appended-new}
-use Rattle.combining.specs.Gibbs.{group, clear?, ringsAmong, sumsFrom, ringsFrom, combined, Doubled}
+use Rattle.combining.specs.Gibbs.{group, clear?, ringsAmong, ringsFrom, combined, Doubled}
 use Rattle.combining.proofs.Adding.{appended-room}
+
+-- the sums of some of the basis rings, where the sums of those before them are given
+unfoldable pub sumsFrom : List ℕ → List ℕ → List ℕ
+sumsFrom olds [] = olds
+sumsFrom olds (r ∷ rs) = sumsFrom (olds ++ group r olds) rs
 
 -- ---- one basis ring more
 

@@ -21,11 +21,6 @@ clear? found s = every (length found) (λ j. not (sub (getD found j 0) s))
 abbrev pub ringsAmong : List ℕ → List ℕ → List ℕ
 ringsAmong found sums = keep (clear? found) sums
 
--- the sums of some of the basis rings, where the sums of those before them are given
-unfoldable pub sumsFrom : List ℕ → List ℕ → List ℕ
-sumsFrom olds [] = olds
-sumsFrom olds (r ∷ rs) = sumsFrom (olds ++ group r olds) rs
-
 -- the rings that are found more, group after group, where those of the groups before are given
 unfoldable pub ringsFrom : List ℕ → List ℕ → List ℕ → List ℕ
 ringsFrom olds found [] = []

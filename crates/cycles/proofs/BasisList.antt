@@ -6,27 +6,38 @@ use mathlib.Core.Bool.{Bool, false}
 use mathlib.Core.List.{List, List·Memᴰ as In}
 use Prim.Native.Nat.{ℕ, _<_}
 use native.Mathlib.Omega.{arith}
+use lib.Dec.{ltb}
 use lib.ListN.{length, getD}
 use lib.Seq.{ext-getD}
 use Rattle.sets.specs.Bits.{has}
 use Rattle.sets.proofs.Laws.{has-zero}
-use Rattle.definitions.specs.Search.{count, listed}
+use Rattle.definitions.specs.Search.{count, listed, those}
 use Rattle.definitions.specs.Table.{Table, bonds}
 use Rattle.definitions.specs.Ring.{Even, Ring}
-use Rattle.definitions.specs.Basis.{Closure, closure?, basisRing, basisRings}
+use Rattle.definitions.specs.Basis.{Closure, closure?, BasisRing, basisRing, basisRings}
 use Rattle.definitions.specs.Smallest.{chosen, SumOf}
 use Rattle.definitions.proofs.Tests.{clashes, and-both, both-and}
-use Rattle.definitions.proofs.Lists.{in-getD, count-lt, count-find, length-listed, listed-in, listed-place}
+use Rattle.definitions.proofs.Lists.{Sorted, in-getD, count-lt, count-find, length-listed, listed-in, listed-place, those-in, those-rising}
+use Rattle.definitions.proofs.Sorting.{ltb-order, sorted-unique}
 use Rattle.definitions.proofs.Refusals.{Valid}
 use Rattle.definitions.proofs.Paths.{closure-test}
 use Rattle.spans.proofs.Choice.{Independent}
 use Rattle.cycles.proofs.Sums.{picked, chosen-picked, sum-listed}
-use Rattle.cycles.proofs.BasisRings.{basis-is-ring}
+use Rattle.cycles.proofs.BasisRings.{basis-ring-reads, basis-is-ring}
 use Rattle.cycles.proofs.EvenSums.{closesIn, Picks, closure-tested, ring-sum-even, ring-sum-at, even-sum}
 
 -- the place in the list of the basis ring of closure bond k
 abbrev pub placeOf : Table → ℕ → ℕ
 placeOf M k = count k (closure? M)
+
+-- the closure bonds, rising
+abbrev pub closureBonds : Table → List ℕ
+closureBonds M = those (bonds M) (closure? M)
+
+-- they are as many as the basis rings
+pub basis-rings-length : (M : Table) → length (basisRings M) ≡ length (closureBonds M)
+unfolding basisRings
+basis-rings-length M = length-listed (bonds M) (closure? M) (basisRing M) ∙ sym (length-listed (bonds M) (closure? M) (λ k. k))
 
 module _ {M : Table} (valid : Valid M) where
   -- ---- places
@@ -47,6 +58,40 @@ module _ {M : Table} (valid : Valid M) where
   place-find i l =
       let (k, h, t, e) = count-find (closure? M) (bonds M) i (omega (arith, length-listed (bonds M) (closure? M) (basisRing M))) in
       (k, closure-test valid k h .0 t, e)
+
+  -- ---- the list of closure bonds
+
+  -- it has the closure bonds, and nothing else
+  pub closures-are : (k : ℕ) → In k (closureBonds M) ↔ Closure M k
+  closures-are k = (
+    λ i. let (l, t) = those-in (bonds M) (closure? M) k .0 i in closure-test valid k l .0 t,
+    λ c. those-in (bonds M) (closure? M) k .1 (c .bond, closure-tested valid c),
+  )
+
+  -- at each place stand a closure bond and its basis ring
+  pub basis-ring-at : (i : ℕ) → i < length (closureBonds M) → BasisRing M (getD (closureBonds M) i 0) (getD (basisRings M) i 0)
+  basis-ring-at i l =
+      let (k, c, e) = place-find i (omega (arith, basis-rings-length M)) in
+      let here : getD (closureBonds M) i 0 ≡ k
+      = ap (λ (p : ℕ). getD (closureBonds M) p 0) (sym e) ∙ listed-place (bonds M) (closure? M) (λ j. j) k 0 (c .bond) (closure-tested valid c) in
+      rw here (basis-ring-reads valid c (getD (basisRings M) i 0) .1 (ap (λ (p : ℕ). getD (basisRings M) p 0) (sym e) ∙ place-ring c))
+
+  -- there is one list of the basis rings of closure bonds, one at each place
+  pub basis-rings-unique : (ks bs : List ℕ) → Sorted ltb ks → ((k : ℕ) → In k ks ↔ Closure M k) → length bs ≡ length ks
+      → ((i : ℕ) → i < length ks → BasisRing M (getD ks i 0) (getD bs i 0)) → bs ≡ basisRings M
+  basis-rings-unique ks bs rising are size each =
+      ext-getD 0 bs (basisRings M) (size ∙ ap length same ∙ sym (basis-rings-length M))
+      (λ i l. one (each i (omega arith)) (basis-ring-at i (omega (arith, ap length same))) (ap (λ js. getD js i 0) same))
+    where
+      same : ks ≡ closureBonds M
+      same = sorted-unique ltb-order rising (those-rising (bonds M) (closure? M))
+          (λ k. (λ i. closures-are k .1 (are k .0 i), λ i. are k .1 (closures-are k .0 i)))
+
+      one : {k j s t : ℕ} → BasisRing M k s → BasisRing M j t → k ≡ j → s ≡ t
+      one b c e =
+          basis-ring-reads valid (b .closure) _ .0 b ∙ ap (basisRing M) e ∙ sym (basis-ring-reads valid (c .closure) _ .0 c)
+
+  -- ---- each member
 
   -- each basis ring in the list is a ring
   pub basis-rings-are-rings : (i : ℕ) → i < length (basisRings M) → Ring M (getD (basisRings M) i 0)

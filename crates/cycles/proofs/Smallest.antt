@@ -2,24 +2,28 @@
 -- in total. The basis rings are a basis of rings too, so it has as many. Assumes nothing.
 use mathlib.Core.Path.{_≡_, sym}
 use mathlib.Core.Logic.{_↔_}
-use mathlib.Core.List.{List, map}
+use mathlib.Core.List.{List, map, List·Memᴰ as In}
 use Prim.Native.Nat.{ℕ}
 use lib.ListN.{length}
 use Rattle.sets.specs.Bits.{size}
 use Rattle.definitions.specs.Table.{Table}
+use Rattle.definitions.specs.Ring.{Ring}
 use Rattle.definitions.specs.Basis.{basisRings}
-use Rattle.definitions.specs.AllRings.{allRings}
-use Rattle.definitions.specs.Smallest.{smallestBasis}
+use Rattle.definitions.specs.AllRings.{before, allRings}
+use Rattle.definitions.specs.Smallest.{SumOf, smallestBasis}
 pub use Rattle.definitions.specs.Smallest.{NoneOfOthers, RingBasis, SmallestBasis}
 use Rattle.definitions.specs.Label.{occurs}
+use Rattle.definitions.proofs.Lists.{Sorted}
+use Rattle.definitions.proofs.Sorting.{before-order}
 use Rattle.definitions.proofs.Refusals.{Valid}
 use Rattle.definitions.proofs.Rings.{all-rings-are, all-rings-sorted}
 use Rattle.spans.proofs.Choice.{independent-iff-others}
-use Rattle.spans.proofs.Smallest.{before-rising, BasisOf, SmallestOf, taken-basis, taken-length, taken-least-total, smallest-sizes-agree}
+use Rattle.spans.proofs.InOrder.{earlier, taking-sorted, taking-reads, taken-unique}
+use Rattle.spans.proofs.Smallest.{before-rising, SpanBasis, SmallestOf, taken-basis, taken-length, taken-least-total, smallest-sizes-agree}
 use Rattle.cycles.proofs.BasisList.{basis-ring-in, even-sums, basis-rings-independent}
 
 -- it is a basis made of the list of all rings
-pub ring-basis-of : (M : Table) (bs : List ℕ) → RingBasis M bs ↔ BasisOf (allRings M) bs
+pub ring-basis-of : (M : Table) (bs : List ℕ) → RingBasis M bs ↔ SpanBasis (allRings M) bs
 ring-basis-of M bs = (
   λ b.
       record {
@@ -43,6 +47,31 @@ smallest-basis-theorem M =
       basis = ring-basis-of M (smallestBasis M) .1 (taken-basis (allRings M));
       least = λ cs c. taken-least-total (allRings M) (before-rising (all-rings-sorted M)) cs (ring-basis-of M cs .0 c);
     }
+
+-- it is in the order of all rings
+pub smallest-basis-sorted : (M : Table) → Sorted before (smallestBasis M)
+unfolding smallestBasis
+smallest-basis-sorted M = taking-sorted before-order (all-rings-sorted M)
+
+-- what is no sum of those of a list that stand before it, among all rings and among the rings
+among-rings : (M : Table) (bs : List ℕ) → ((s : ℕ) → In s bs ↔ (Ring M s × (¬ SumOf (earlier before bs s) s)))
+    ↔ ((s : ℕ) → In s bs ↔ (In s (allRings M) × (¬ SumOf (earlier before bs s) s)))
+among-rings M bs = (
+  λ h s. (λ i. (all-rings-are M s .1 (h s .0 i .0), h s .0 i .1), λ (r, none). h s .1 (all-rings-are M s .0 r, none)),
+  λ h s. (λ i. (all-rings-are M s .0 (h s .0 i .0), h s .0 i .1), λ (r, none). h s .1 (all-rings-are M s .1 r, none)),
+)
+
+-- a ring is in it exactly if it is no sum of rings in it that stand before it
+pub smallest-basis-reads : (M : Table) (s : ℕ) → In s (smallestBasis M) ↔ (Ring M s × (¬ SumOf (earlier before (smallestBasis M) s) s))
+unfolding smallestBasis
+smallest-basis-reads M = among-rings M (smallestBasis M) .1 (taking-reads before-order (allRings M) (all-rings-sorted M))
+
+-- and there is one such list
+pub smallest-basis-unique : (M : Table) (bs : List ℕ) → Sorted before bs
+    → ((s : ℕ) → In s bs ↔ (Ring M s × (¬ SumOf (earlier before bs s) s))) → bs ≡ smallestBasis M
+smallest-basis-unique M bs sorted h =
+    taken-unique before-order (all-rings-sorted M) sorted (smallest-basis-sorted M)
+    (among-rings M bs .0 h) (among-rings M (smallestBasis M) .0 (smallest-basis-reads M))
 
 -- every smallest basis has as many rings of each size
 pub smallest-basis-sizes : (M : Table) (bs cs : List ℕ) → SmallestBasis M bs → SmallestBasis M cs → (t : ℕ) → occurs t (map size bs) ≡ occurs t (map size cs)

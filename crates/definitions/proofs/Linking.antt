@@ -175,22 +175,49 @@ number-occurs rs a l =
     let (i, h, t, e) = count-find (first? rs) (length rs) a (omega (arith, assembly-count rs)) in
     (i, h, t, number-first rs i t ∙ e)
 
--- a list that gives linked rings the same number, and a first ring the number of those before it, is the numbering
-pub assemblies-unique : (rs ns : List ℕ) → length ns ≡ length rs
-    → ((i j : ℕ) → i < length rs → j < i → Linked rs i j → getD ns i 0 ≡ getD ns j 0)
-    → ((i : ℕ) → i < length rs → first? rs i ≡ true → getD ns i 0 ≡ count i (first? rs))
-    → ns ≡ assembliesOf rs
-assemblies-unique rs ns size together fresh = ext-getD 0 ns (assembliesOf rs) (size ∙ sym (length-assemblies rs)) (λ i l. each i (omega arith))
-  where
-    to-leader : (i : ℕ) → i < length rs → Leader rs i (leader rs i) → getD ns i 0 ≡ getD ns (leader rs i) 0
-    to-leader i l f =
-        by (first? rs i) (λ e. ap (λ (x : ℕ). getD ns x 0) (sym (eqb-true (leader rs i) i e)))
-        (λ e. together i (leader rs i) l (omega (arith, f .low, eqb-false (leader rs i) i e)) (f .linked))
+-- ---- the numbers are given from 0 on
 
-    each : (i : ℕ) → i < length rs → getD ns i 0 ≡ number rs i
-    each i l =
-        let f = leaders-first rs i l in
-        to-leader i l f ∙ fresh (leader rs i) (omega (arith, f .low)) (eq-eqb (leader rs (leader rs i)) (leader rs i) (f .own)) ∙ sym (number-counts rs i)
+-- each number below that of a ring is the number of an earlier one
+pub number-lower : (rs : List ℕ) (i m : ℕ) → i < length rs → m < number rs i → (j : ℕ) × (j < i) × (number rs j ≡ m)
+number-lower rs i m l h =
+    let (j, a, t, e) = count-find (first? rs) (leader rs i) m (omega (arith, number-counts rs i)) in
+    (j, omega (arith, leaders-first rs i l .low), number-first rs j t ∙ e)
+
+-- a number for each ring: linked rings have the same number, others do not, and each number below it is that of an earlier ring
+pub record Numbering (rs ns : List ℕ) : Type 0 where
+  pub counted : length ns ≡ length rs
+  pub together : (i j : ℕ) → i < length rs → j < length rs → (getD ns i 0 ≡ getD ns j 0) ↔ Linked rs i j
+  pub lower : (i m : ℕ) → i < length rs → m < getD ns i 0 → (j : ℕ) × (j < i) × (getD ns j 0 ≡ m)
+
+-- the numbers of the assemblies are so
+pub assemblies-numbering : (rs : List ℕ) → Numbering rs (assembliesOf rs)
+assemblies-numbering rs = record { counted = length-assemblies rs; together = linked-test rs; lower = number-lower rs }
+
+-- of two that agree before a ring neither has the lower number at it: that number would be of an earlier ring, which is not linked with it
+numbering-step : {rs ns ms : List ℕ} → Numbering rs ns → Numbering rs ms → (i : ℕ) → i < length rs
+    → ((j : ℕ) → j < i → getD ns j 0 ≡ getD ms j 0) → getD ms i 0 ≤ getD ns i 0
+numbering-step {rs} {ns} {ms} n m i l h =
+    by (ltb (getD ns i 0) (getD ms i 0))
+    (λ t. let less = ltb-true (getD ns i 0) (getD ms i 0) t in
+    let (j, a, e) = m .lower i (getD ns i 0) l less in
+    let linked : Linked rs i j = n .together i j l (omega arith) .0 (sym e ∙ sym (h j a)) in
+    absurd (omega (arith, m .together i j l (omega arith) .1 linked)))
+    (λ t. ltb-false (getD ns i 0) (getD ms i 0) t)
+
+-- so two are one
+pub numbering-unique : {rs ns ms : List ℕ} → Numbering rs ns → Numbering rs ms → ns ≡ ms
+numbering-unique {rs} {ns} {ms} n m =
+    ext-getD 0 ns ms (n .counted ∙ sym (m .counted)) (λ i l. up-to (suc i) i (omega arith) (omega (arith, n .counted)))
+  where
+    up-to : (k i : ℕ) → i < k → i < length rs → getD ns i 0 ≡ getD ms i 0
+    up-to zero i h l = absurd (omega arith)
+    up-to (suc k) i h l =
+        let before : (j : ℕ) → j < i → getD ns j 0 ≡ getD ms j 0 = λ j t. up-to k j (omega arith) (omega arith) in
+        omega (arith, numbering-step n m i l before, numbering-step m n i l (λ j t. sym (before j t)))
+
+-- and the numbers of the assemblies are the only ones
+pub assemblies-unique : {rs ns : List ℕ} → Numbering rs ns → ns ≡ assembliesOf rs
+assemblies-unique {rs} n = numbering-unique n (assemblies-numbering rs)
 
 -- ---- assemblies that are numbered one by one
 

@@ -94,6 +94,12 @@ module _ {A : Type 0} where
   sorted-snoc (sorted-more {x = y} {l} g s) h =
       sorted-more (λ z i. ⊎-elim (λ j. g z j) (λ e. rw e (h y (here refl))) (in-snoc l i)) (sorted-snoc s (λ z i. h z (there i)))
 
+  -- what stands before a member of a list in order is before it
+  pub sorted-earlier : {before : A → A → Bool} (a : List A) (x : A) (c : List A) → Sorted before (a ++ (x ∷ c))
+      → (y : A) → In y a → before y x ≡ true
+  sorted-earlier (z ∷ a) x c (sorted-more h s) y (here e) = rw e (h x (Memᴰ·append-right a (here refl)))
+  sorted-earlier (z ∷ a) x c (sorted-more h s) y (there i) = sorted-earlier a x c s y i
+
 -- a member's place: what stands before it and after it
 pub in-split : {A : Type 0} {x : A} {l : List A} → In x l → (a : List A) × (c : List A) × (l ≡ a ++ (x ∷ c))
 in-split (here {xs} e) = ([], xs, ap (λ y. y ∷ xs) (sym e))
@@ -512,6 +518,14 @@ pub fresh-keep : {A : Type 0} (p : A → Bool) {l : List A} → NoRepeats l → 
 fresh-keep p fresh-none = rw (keep-nil p) fresh-none
 fresh-keep p (fresh-more {x} {l} n f) =
     by (p x) (λ h. rw (keep-take p x l h) (fresh-more (λ i. n (keep-in p x l .0 i .0)) (fresh-keep p f))) (λ h. rw (keep-skip p x l h) (fresh-keep p f))
+
+-- what is kept of a list in order is in order
+pub sorted-keep : {A : Type 0} {before : A → A → Bool} (p : A → Bool) {l : List A} → Sorted before l → Sorted before (keep p l)
+sorted-keep p sorted-none = rw (keep-nil p) sorted-none
+sorted-keep p (sorted-more {x} {l} h s) =
+    by (p x)
+    (λ t. rw (keep-take p x l t) (sorted-more (λ y i. h y (keep-in p y l .0 i .0)) (sorted-keep p s)))
+    (λ t. rw (keep-skip p x l t) (sorted-keep p s))
 
 -- ---- a list of one value, and a list of values read through a function
 

@@ -1,6 +1,7 @@
--- The refusals in words: each number is given exactly when its sentence holds and none that is tried before it, and 0 exactly where none
--- holds, which the record `Valid` names. A number goes by the place of its test in the list, not by its size. Assumes nothing.
-use mathlib.Core.Path.{_≡_, refl, sym, _∙_}
+-- The refusals by their sentences: the number of the first test that passes is told by the sentences of `specs/Sentences.antt`, and by what
+-- holds where they don't; 0 is given exactly where none holds, which the record `Valid` names. A number goes by the place of its test in the
+-- list, not by its size. Assumes nothing.
+use mathlib.Core.Path.{_≡_, refl, sym, ap, subst, _∙_}
 use mathlib.Core.Logic.{_↔_, _≢_, _⊎_, ⊎-elim}
 use mathlib.Core.Bool.{Bool, true, false, not, _&&_, _||_, cond, false≢true}
 use mathlib.Core.List.{List, [], _∷_, _++_, map}
@@ -9,13 +10,15 @@ use Prim.Native.Nat.{ℕ, zero, suc, _%_, _<_, _≤_}
 use native.Mathlib.Nat.{not-suc-le-zero}
 use native.Mathlib.Omega.{arith}
 use lib.ListN.{length, getD}
-use lib.Dec.{ltb, eqb, lit<}
-use borrow.Author.Tests.{eqb-true, eqb-false, ne-eqb, not-true}
-use Rattle.definitions.specs.Table.{Table, bonds, tail, head, maxAtoms, maxBonds, alike?, seenBefore?, tableTests, firstOf, refusal, ODD, ATOMS, BONDS, END, SELF, TWICE, TANGLED}
+use lib.Dec.{leb, ltb, eqb, lit<}
+use borrow.Author.Tests.{leb-true, leb-false, eqb-true, eqb-false, not-true, not-false}
+use Rattle.definitions.specs.Search.{Each}
+use Rattle.definitions.specs.Table.{Table, bonds, tail, head, maxAtoms, maxBonds, alike?, seenBefore?, tableTests, firstOf, refusal, ODD, ATOMS, BONDS, TANGLED, ROOM}
 use Rattle.definitions.specs.Basis.{basisRings}
 use Rattle.definitions.specs.Assembly.{assemblyCount, ringsIn, maxAssembly, tangled?}
-use Rattle.definitions.specs.Answer.{refusalOfRings}
-use Rattle.definitions.proofs.Tests.{by, not-passed, not-failed, and-both, Each, Some, Tells, true-of, false-of, tells-leb, tells-ltb, tells-eqb, tells-or, tells-and, tells-as, tells-not, tells-some}
+use Rattle.definitions.specs.Answer.{refusalOfRings, outcome}
+use Rattle.definitions.specs.Sentences.{OddBytes, BadCount, ManyBonds, Alike, Tangled, wrongs, wrongsOfRings, orNoRoom, placed, Told}
+use Rattle.definitions.proofs.Tests.{by, each-more, not-passed, and-both, clashes, Tells, true-of, false-of, tells-leb, tells-ltb, tells-eqb, tells-or, tells-and, tells-as, tells-not, tells-some}
 
 -- ---- the first of a list of numbered tests that passes
 
@@ -115,15 +118,35 @@ none-back (t ∷ ts) d e j =
     go zero p ih = p
     go (suc j) p ih = ih j
 
--- a list of tests with what each says; the propositions past the end are those of a test that fails
-data Tell : List (ℕ × Bool) → List (Type 0) → List (Type 0) → Type 1 where
+-- numbered tests, each with the sentence that it tells and with what holds where it fails
+data Tell : List (ℕ × Bool) → List (ℕ × Type 0) → List (Type 0) → Type 1 where
   none : Tell [] [] []
-  more : {n : ℕ} {b : Bool} {P N : Type 0} {ts : List (ℕ × Bool)} {Ps Ns : List (Type 0)} → Tells b P N → Tell ts Ps Ns → Tell ((n, b) ∷ ts) (P ∷ Ps) (N ∷ Ns)
+  more : {n : ℕ} {b : Bool} {P N : Type 0} {ts : List (ℕ × Bool)} {Ps : List (ℕ × Type 0)} {Ns : List (Type 0)} → Tells b P N → Tell ts Ps Ns
+      → Tell ((n, b) ∷ ts) ((n, P) ∷ Ps) (N ∷ Ns)
 
-tell-at : {ts : List (ℕ × Bool)} {Ps Ns : List (Type 0)} → Tell ts Ps Ns → (i : ℕ) → Tells (testAt ts i .1) (getD Ps i ⊥) (getD Ns i (Unit {0}))
+-- past the end there is a test that fails
+tell-at : {ts : List (ℕ × Bool)} {Ps : List (ℕ × Type 0)} {Ns : List (Type 0)} → Tell ts Ps Ns → (i : ℕ)
+    → Tells (testAt ts i .1) (placed Ps i .1) (getD Ns i (Unit {0}))
 tell-at none i = record { yes-says = λ e. absurd (false≢true e); no-says = λ e. tt; clash = λ p q. p }
 tell-at (more t ts) zero = t
 tell-at (more t ts) (suc i) = tell-at ts i
+
+-- sentences and tests have the same numbers, and there are as many
+tell-number : {ts : List (ℕ × Bool)} {Ps : List (ℕ × Type 0)} {Ns : List (Type 0)} → Tell ts Ps Ns → (i : ℕ)
+    → testAt ts i .0 ≡ placed Ps i .0
+tell-number none i = refl
+tell-number (more t ts) zero = refl
+tell-number (more t ts) (suc i) = tell-number ts i
+
+tell-length : {ts : List (ℕ × Bool)} {Ps : List (ℕ × Type 0)} {Ns : List (Type 0)} → Tell ts Ps Ns → length Ps ≡ length ts
+tell-length none = refl
+tell-length (more t ts) = ap suc (tell-length ts)
+
+-- one more test at the end
+tell-last : {ts : List (ℕ × Bool)} {Ps : List (ℕ × Type 0)} {Ns : List (Type 0)} (n : ℕ) {b : Bool} {P N : Type 0}
+    → Tell ts Ps Ns → Tells b P N → Tell (ts ++ ((n, b) ∷ [])) (Ps ++ ((n, P) ∷ [])) (Ns ++ (N ∷ []))
+tell-last n none u = more u none
+tell-last n (more t ts) u = more t (tell-last n ts u)
 
 -- the first i propositions of a list, written out as nested pairs
 abbrev pub Upto : ℕ → List (Type 0) → Type 0
@@ -142,7 +165,7 @@ upto-of-each zero Ns h = tt
 upto-of-each (suc i) [] h = tt
 upto-of-each (suc i) (N ∷ Ns) h = (h 0 (omega arith), upto-of-each i Ns (λ j l. h (suc j) (omega arith)))
 
-module _ {ts : List (ℕ × Bool)} {Ps Ns : List (Type 0)} (t : Tell ts Ps Ns) where
+module _ {ts : List (ℕ × Bool)} {Ps : List (ℕ × Type 0)} {Ns : List (Type 0)} (t : Tell ts Ps Ns) where
   -- the first i tests fail exactly where what they then say holds
   fail-reads : (i : ℕ) → Each i (λ j. testAt ts j .1 ≡ false) ↔ Upto i Ns
   fail-reads i = (
@@ -152,7 +175,7 @@ module _ {ts : List (ℕ × Bool)} {Ps Ns : List (Type 0)} (t : Tell ts Ps Ns) w
 
   module _ (d : distinct? (numbers ts) ≡ true) where
     -- the number of the test at i is given exactly where it passes and those before it fail
-    first-reads : (i : ℕ) → i < length ts → (firstOf ts ≡ testAt ts i .0) ↔ (Upto i Ns × getD Ps i ⊥)
+    first-reads : (i : ℕ) → i < length ts → (firstOf ts ≡ testAt ts i .0) ↔ (Upto i Ns × placed Ps i .1)
     first-reads i l = (
       λ e. let h = first-back ts i d l e in (fail-reads i .0 (h .0), tell-at t i .yes-says (h .1)),
       λ h. first-at ts i (fail-reads i .1 (h .0), true-of (tell-at t i) (h .1)),
@@ -165,56 +188,40 @@ module _ {ts : List (ℕ × Bool)} {Ps Ns : List (Type 0)} (t : Tell ts Ps Ns) w
       λ u. first-none ts (fail-reads (length ts) .1 u),
     )
 
--- ---- what each refusal says of a table, and what holds of a table that it does not hold of
+    -- so the number that is given is told by the sentences
+    told-first : Told Ps (firstOf ts)
+    told-first =
+        record {
+          first = λ i l. (
+            λ e. let h = first-back ts i d (rw (tell-length t) at l) (e ∙ sym (tell-number t i)) in
+                (tell-at t i .yes-says (h .1), λ j m p. clashes (true-of (tell-at t j) p) (h .0 j m)),
+            λ h. first-at ts i (λ j m. not-passed _ (λ p. h .1 j m (tell-at t j .yes-says p)), true-of (tell-at t i) (h .0)) ∙ tell-number t i,
+          );
+          none = (
+            λ e j l p. clashes (true-of (tell-at t j) p) (none-back ts d e j),
+            λ h. first-none ts (λ j l. not-passed _ (λ p. h j (rw (tell-length t) l) (tell-at t j .yes-says p))),
+          );
+        }
 
--- 1 ODD: half a bond, an odd number of bond bytes
-abbrev pub OddBytes : Table → Type 0
-OddBytes M = length (M .bytes) % 2 ≡ 1
+-- ---- what holds of a table that a refusal does not hold of
 
 abbrev pub EvenBytes : Table → Type 0
 EvenBytes M = length (M .bytes) % 2 ≡ 0
 
--- 2 ATOMS: no atom, or more atoms than a table may have
-abbrev pub BadCount : Table → Type 0
-BadCount M = (M .atoms ≡ 0) ⊎ (maxAtoms < M .atoms)
-
 abbrev pub GoodCount : Table → Type 0
 GoodCount M = (0 < M .atoms) × (M .atoms ≤ maxAtoms)
-
--- 3 BONDS: more bonds than a table may have
-abbrev pub ManyBonds : Table → Type 0
-ManyBonds M = maxBonds < bonds M
 
 abbrev pub FewBonds : Table → Type 0
 FewBonds M = bonds M ≤ maxBonds
 
--- 4 END: a bond has an end that is the atom count or higher
-abbrev pub NamesOutside : Table → Type 0
-NamesOutside M = Some (bonds M) (λ k. (M .atoms ≤ tail M k) ⊎ (M .atoms ≤ head M k))
-
 abbrev pub AllInside : Table → Type 0
 AllInside M = Each (bonds M) (λ k. (tail M k < M .atoms) × (head M k < M .atoms))
-
--- 5 SELF: the two ends of a bond are one atom
-abbrev pub JoinsSelf : Table → Type 0
-JoinsSelf M = Some (bonds M) (λ k. tail M k ≡ head M k)
 
 abbrev pub NoneSelf : Table → Type 0
 NoneSelf M = Each (bonds M) (λ k. tail M k ≢ head M k)
 
--- 6 TWICE: two bonds have the same two atoms, in the same order or in the other
-abbrev pub Alike : Table → ℕ → ℕ → Type 0
-Alike M k j = ((tail M k ≡ tail M j) × (head M k ≡ head M j)) ⊎ ((tail M k ≡ head M j) × (head M k ≡ tail M j))
-
-abbrev pub BondedTwice : Table → Type 0
-BondedTwice M = Some (bonds M) (λ k. Some k (Alike M k))
-
 abbrev pub NoneTwice : Table → Type 0
 NoneTwice M = Each (bonds M) (λ k. Each k (λ j. Alike M k j → ⊥))
-
--- 7 TANGLED: more basis rings in one assembly than there may be
-abbrev pub Tangled : Table → Type 0
-Tangled M = Some (assemblyCount (basisRings M)) (λ a. maxAssembly < length (ringsIn (basisRings M) a))
 
 abbrev pub NoneTangled : Table → Type 0
 NoneTangled M = Each (assemblyCount (basisRings M)) (λ a. length (ringsIn (basisRings M) a) ≤ maxAssembly)
@@ -236,10 +243,7 @@ pub tells-tangled : (M : Table) → Tells (tangled? M) (Tangled M) (NoneTangled 
 unfolding tangled?
 tells-tangled M = tells-some (λ a. tells-ltb _ _) _
 
--- what the tests say where they pass, and where they fail, in their order
-abbrev pub wrongs : Table → List (Type 0)
-wrongs M = OddBytes M ∷ BadCount M ∷ ManyBonds M ∷ NamesOutside M ∷ JoinsSelf M ∷ BondedTwice M ∷ []
-
+-- what holds where the tests fail, in their order
 abbrev pub rights : Table → List (Type 0)
 rights M = EvenBytes M ∷ GoodCount M ∷ FewBonds M ∷ AllInside M ∷ NoneSelf M ∷ NoneTwice M ∷ []
 
@@ -261,7 +265,7 @@ numbered M = refl
 -- ---- each number exactly when
 
 -- the number of the test at i is given exactly where its sentence holds and no sentence before it
-pub refused-exactly : (M : Table) (i : ℕ) → i < length (tableTests M) → (refusal M ≡ testAt (tableTests M) i .0) ↔ (Upto i (rights M) × getD (wrongs M) i ⊥)
+pub refused-exactly : (M : Table) (i : ℕ) → i < length (tableTests M) → (refusal M ≡ testAt (tableTests M) i .0) ↔ (Upto i (rights M) × placed (wrongs M) i .1)
 unfolding refusal
 refused-exactly M i l = first-reads (tells M) (numbered M) i l
 
@@ -285,27 +289,6 @@ pub refused-bonds : (M : Table) → (refusal M ≡ BONDS) ↔ (EvenBytes M × Go
 refused-bonds M = (
   λ e. let r = refused-exactly M 2 (lit< tt) .0 e in (r .0 .0, r .0 .1 .0, r .1),
   λ h. refused-exactly M 2 (lit< tt) .1 ((h .0, (h .1, tt)), h .2),
-)
-
--- 4 exactly when none of those, and a bond has an end that is the atom count or higher
-pub refused-end : (M : Table) → (refusal M ≡ END) ↔ (EvenBytes M × GoodCount M × FewBonds M × NamesOutside M)
-refused-end M = (
-  λ e. let r = refused-exactly M 3 (lit< tt) .0 e in (r .0 .0, r .0 .1 .0, r .0 .1 .1 .0, r .1),
-  λ h. refused-exactly M 3 (lit< tt) .1 ((h .0, (h .1, (h .2, tt))), h .3),
-)
-
--- 5 exactly when none of those, and the two ends of a bond are one atom
-pub refused-self : (M : Table) → (refusal M ≡ SELF) ↔ (EvenBytes M × GoodCount M × FewBonds M × AllInside M × JoinsSelf M)
-refused-self M = (
-  λ e. let r = refused-exactly M 4 (lit< tt) .0 e in (r .0 .0, r .0 .1 .0, r .0 .1 .1 .0, r .0 .1 .1 .1 .0, r .1),
-  λ h. refused-exactly M 4 (lit< tt) .1 ((h .0, (h .1, (h .2, (h .3, tt)))), h .4),
-)
-
--- 6 exactly when none of those, and two bonds have the same two atoms
-pub refused-twice : (M : Table) → (refusal M ≡ TWICE) ↔ (EvenBytes M × GoodCount M × FewBonds M × AllInside M × NoneSelf M × BondedTwice M)
-refused-twice M = (
-  λ e. let r = refused-exactly M 5 (lit< tt) .0 e in (r .0 .0, r .0 .1 .0, r .0 .1 .1 .0, r .0 .1 .1 .1 .0, r .0 .1 .1 .1 .1 .0, r .1),
-  λ h. refused-exactly M 5 (lit< tt) .1 ((h .0, (h .1, (h .2, (h .3, (h .4, tt))))), h .5),
 )
 
 -- what an accepted table has
@@ -366,30 +349,11 @@ module _ (ts us : List (ℕ × Bool)) (d : distinct? (numbers ts) ≡ true) wher
     λ h. append-first ts us d (h .0) ∙ h .1,
   )
 
-  -- a number that no test of the second list has, exactly where the first list gives it
-  by-first : (c : ℕ) → c ≢ 0 → absent? c (numbers us) ≡ true → (firstOf (ts ++ us) ≡ c) ↔ (firstOf ts ≡ c)
-  by-first c z a = (
-    λ e. either (λ n q. absurd (first-other c us z a (sym q ∙ e))) (λ n q. sym q ∙ e),
-    λ e. first-append ts us (λ n. z (sym e ∙ n)) ∙ e,
-  )
-
-  -- and one that no test of the first list has, exactly where that gives 0 and the second list gives it
-  by-second : (c : ℕ) → c ≢ 0 → absent? c (numbers ts) ≡ true → (firstOf (ts ++ us) ≡ c) ↔ ((firstOf ts ≡ 0) × (firstOf us ≡ c))
-  by-second c z a = (
-    λ e. either (λ n q. (n, sym q ∙ e)) (λ n q. absurd (first-other c ts z a (sym q ∙ e))),
-    λ h. append-first ts us d (h .0) ∙ h .1,
-  )
-
 module _ (n : ℕ) (some-number : n ≢ 0) (b : Bool) where
   -- one test alone gives 0 exactly where it fails
   alone-none : (firstOf ((n, b) ∷ []) ≡ 0) ↔ (b ≡ false)
   unfolding firstOf
   alone-none = (λ e. not-passed b (λ p. some-number (rw p at e)), λ p. rw p)
-
-  -- and its number exactly where it passes
-  alone-given : (firstOf ((n, b) ∷ []) ≡ n) ↔ (b ≡ true)
-  unfolding firstOf
-  alone-given = (λ e. not-failed b (λ p. some-number (sym (rw p at e))), λ p. rw p)
 
 -- the test that is tried after those of the table
 abbrev tangling : Table → List (ℕ × Bool)
@@ -413,17 +377,71 @@ rings-accepted M =
     let a = alone-none TANGLED (λ e. omega arith) (tangled? M) in
     (λ e. (b .0 e .0, a .0 (b .0 e .1)), λ h. b .1 (h .0, a .1 (h .1)))
 
--- it gives 7 exactly where the table is accepted and an assembly is too large
-pub rings-tangled : (M : Table) → (refusalOfRings M ≡ TANGLED) ↔ ((refusal M ≡ 0) × (tangled? M ≡ true))
-unfolding refusal refusalOfRings absent?
-rings-tangled M =
-    let b = by-second (tableTests M) (tangling M) (numbered M) TANGLED (λ e. omega arith) refl in
-    let a = alone-given TANGLED (λ e. omega arith) (tangled? M) in
-    (λ e. (b .0 e .0, a .0 (b .0 e .1)), λ h. b .1 (h .0, a .1 (h .1)))
+-- ---- each number as it is told
 
--- and a number of the table's tests exactly where the table check does
-pub rings-refused : (M : Table) (c : ℕ) → In c (numbers (tableTests M)) → (refusalOfRings M ≡ c) ↔ (refusal M ≡ c)
-unfolding refusal refusalOfRings absent?
-rings-refused M c m =
-    let other : (x : ℕ) → absent? x (numbers (tableTests M)) ≡ true → c ≢ x = λ x a e. absent-out x (numbers (tableTests M)) a (rw e at m) in
-    by-first (tableTests M) (tangling M) (numbered M) c (other 0 refl) (rw (ne-eqb c TANGLED (other TANGLED refl)))
+-- sentences tell one number only
+pub told-once : {wrong : List (ℕ × Type 0)} {a b : ℕ} → Told wrong a → Told wrong b → a ≡ b
+told-once {wrong} {a} {b} s t =
+    by (eqb a b)
+    (eqb-true a b)
+    (λ e. let h = nothing (eqb-false a b e) (length wrong) (omega arith) in s .none .1 h ∙ sym (t .none .1 h))
+  where
+    -- were there two, no sentence would hold
+    nothing : a ≢ b → (n : ℕ) → n ≤ length wrong → Each n (λ j. placed wrong j .1 → ⊥)
+    nothing ne zero l = λ k m. absurd (not-suc-le-zero m)
+    nothing ne (suc n) l =
+        let before = nothing ne n (omega arith) in
+        each-more n before (λ p. ne (s .first n (omega arith) .1 (p, before) ∙ sym (t .first n (omega arith) .1 (p, before))))
+
+-- the table check's
+pub table-told : (M : Table) → Told (wrongs M) (refusal M)
+unfolding refusal
+table-told M = told-first (tells M) (numbered M)
+
+tells-of-rings : (M : Table) → Tell (tableTests M ++ tangling M) (wrongsOfRings M) (rights M ++ (NoneTangled M ∷ []))
+tells-of-rings M = tell-last TANGLED (tells M) (tells-tangled M)
+
+-- and where all rings are needed
+pub rings-told : (M : Table) → Told (wrongsOfRings M) (refusalOfRings M)
+unfolding refusalOfRings distinct? absent?
+rings-told M = told-first (tells-of-rings M) refl
+
+-- the number of an outcome is that of the first test that passes, if the test for room comes last
+module _ {A : Type 0} (room : Bool) (n : ℕ) (given lent : A) where
+  number-refused : (c : ℕ) → c ≢ 0 → c ≡ outcome c room n given lent .number
+  unfolding outcome
+  number-refused zero h = absurd (h refl)
+  number-refused (suc c) h = refl
+
+  number-by-room : firstOf ((ROOM, not room) ∷ []) ≡ outcome 0 room n given lent .number
+  unfolding firstOf outcome
+  number-by-room = by room (λ p. rw p) (λ p. rw p)
+
+  outcome-number : (ts : List (ℕ × Bool)) → distinct? (numbers ts) ≡ true
+      → firstOf (ts ++ ((ROOM, not room) ∷ [])) ≡ outcome (firstOf ts) room n given lent .number
+  outcome-number ts d =
+      either ts ((ROOM, not room) ∷ []) d
+      (λ z q. q ∙ rw z number-by-room)
+      (λ z q. q ∙ number-refused (firstOf ts) z)
+
+-- there is too little room exactly where the test for room fails
+tells-room : (m n : ℕ) → Tells (not (leb m n)) (n < m) (m ≤ n)
+tells-room m n =
+    record { yes-says = λ e. leb-false m n (not-true _ e); no-says = λ e. leb-true m n (not-false _ e); clash = λ p q. omega arith }
+
+module _ (M : Table) (wanted lent : List ℕ) (n : ℕ) (given : List ℕ) where
+  -- the number of what is written where the table may be refused
+  pub table-room-told :
+      Told (orNoRoom (wrongs M) wanted lent) (outcome (refusal M) (leb (length wanted) (length lent)) n given lent .number)
+  unfolding refusal distinct? absent?
+  table-room-told =
+      subst (Told _) (outcome-number _ n given lent (tableTests M) refl)
+      (told-first (tell-last ROOM (tells M) (tells-room (length wanted) (length lent))) refl)
+
+  -- and where all rings are needed
+  pub rings-room-told :
+      Told (orNoRoom (wrongsOfRings M) wanted lent) (outcome (refusalOfRings M) (leb (length wanted) (length lent)) n given lent .number)
+  unfolding refusalOfRings distinct? absent?
+  rings-room-told =
+      subst (Told _) (outcome-number _ n given lent (tableTests M ++ tangling M) refl)
+      (told-first (tell-last ROOM (tells-of-rings M) (tells-room (length wanted) (length lent))) refl)

@@ -22,6 +22,7 @@ use Rattle.definitions.proofs.Lists.{same-lists}
 pub data Claim : Type 0 where
   basis all smallest reduces together labelled : Table → List ℕ → Claim
   refused : Table → ℕ → Claim
+  accepted : Table → Claim
 
 -- the list that a claim is about, and the list that it says
 abbrev pub found : Claim → List ℕ
@@ -32,6 +33,7 @@ found (reduces M l) = reducedBasis M
 found (together M l) = assemblies M
 found (labelled M l) = labelOf M
 found (refused M n) = refusalOfRings M ∷ []
+found (accepted M) = refusalOfRings M ∷ []
 
 abbrev pub said : Claim → List ℕ
 said (basis M l) = l
@@ -41,6 +43,7 @@ said (reduces M l) = l
 said (together M l) = l
 said (labelled M l) = l
 said (refused M n) = n ∷ []
+said (accepted M) = 0 ∷ []
 
 -- ---- the tables
 
@@ -87,27 +90,35 @@ oneTriangle = 0x02 ∷ 0x00 ∷ 0x03 ∷ 0x03 ∷ 0x00 ∷ 0x01 ∷ 0x03 ∷ 0x0
 -- every value that is given, S1 to S10 in order
 abbrev pub claims : List Claim
 claims =
-    all s1 []
+    accepted s1
+    ∷ all s1 []
     ∷ labelled s1 (0x01 ∷ 0x00 ∷ 0x01 ∷ 0x00 ∷ noRings)
+    ∷ accepted s2
     ∷ all s2 []
     ∷ labelled s2 (0x01 ∷ 0x00 ∷ 0x01 ∷ 0x00 ∷ noRings)
+    ∷ accepted s3
     ∷ basis s3 (7 ∷ [])
     ∷ labelled s3 (0x01 ∷ 0x00 ∷ 0x01 ∷ 0x01 ∷ oneTriangle)
+    ∷ accepted s4
     ∷ basis s4 (15 ∷ 19 ∷ [])
     ∷ all s4 (19 ∷ 28 ∷ 15 ∷ [])
     ∷ smallest s4 (19 ∷ 28 ∷ [])
     ∷ reduces s4 (28 ∷ 19 ∷ [])
     ∷ together s4 (0 ∷ 0 ∷ [])
     ∷ labelled s4 (0x01 ∷ 0x00 ∷ 0x01 ∷ 0x02 ∷ 0x02 ∷ 0x00 ∷ 0x06 ∷ 0x03 ∷ 0x00 ∷ 0x02 ∷ 0x04 ∷ 0x00 ∷ 0x01 ∷ 0x03 ∷ 0x00 ∷ 0x02 ∷ 0x03 ∷ 0x02 ∷ 0x04 ∷ 0x00 ∷ 0x02 ∷ 0x02 ∷ 0x05 ∷ [])
+    ∷ accepted s5
     ∷ all s5 (7 ∷ 56 ∷ [])
     ∷ together s5 (0 ∷ 1 ∷ [])
+    ∷ accepted s6
     ∷ basis s6 (63 ∷ 199 ∷ [])
     ∷ all s6 (199 ∷ 248 ∷ 63 ∷ [])
     ∷ smallest s6 (199 ∷ 248 ∷ [])
     ∷ reduces s6 (248 ∷ 199 ∷ [])
+    ∷ accepted s7
     ∷ basis s7 (11 ∷ 21 ∷ 38 ∷ [])
     ∷ all s7 (11 ∷ 21 ∷ 38 ∷ 56 ∷ 30 ∷ 45 ∷ 51 ∷ [])
     ∷ smallest s7 (11 ∷ 21 ∷ 38 ∷ [])
+    ∷ accepted s8
     ∷ labelled s8 (0x01 ∷ 0x00 ∷ 0x01 ∷ 0x00 ∷ oneTriangle)
     ∷ refused s9 4
     ∷ refused s10 6

@@ -2,14 +2,14 @@
 -- what a test that is made of others says. Assumes nothing.
 use mathlib.Core.Path.{_≡_, refl, sym, _∙_}
 use mathlib.Core.Logic.{_↔_, _⊎_, inl, inr, ⊎-elim}
-use mathlib.Core.Bool.{Bool, true, false, _&&_, _||_, cond, true≢false, false≢true}
+use mathlib.Core.Bool.{or-true, or-false, Bool, true, false, _&&_, _||_, cond, true≢false, false≢true}
 use Prim.Native.Nat.{ℕ, zero, suc, _+_, _<_, _≤_}
 use native.Mathlib.Numerals.{add-one}
 use native.Mathlib.Nat.{le-antisymm}
 use native.Mathlib.Omega.{arith}
 use lib.Dec.{leb, ltb, eqb}
 use borrow.Author.Tests.{leb-true, leb-false, ltb-true, ltb-false, lt-ltb, le-ltb, eqb-true, eqb-false, eq-eqb, ne-eqb}
-use Rattle.definitions.specs.Search.{every, some?}
+use Rattle.definitions.specs.Search.{every, some?, Each, Some}
 
 -- by cases of a test, with its equation
 pub by : {A : Type 0} (b : Bool) → (b ≡ true → A) → (b ≡ false → A) → A
@@ -69,14 +69,6 @@ below-next x m k =
     (λ e. let q = eqb-false x m e in rw (t, e, le-ltb x (suc m) (omega arith)) (omega arith)))
 
 -- ---- each number below n, some number below n
-
--- what each test below n says
-abbrev pub Each : ℕ → (ℕ → Type 0) → Type 0
-Each n N = (k : ℕ) → k < n → N k
-
--- what some test below n says
-abbrev pub Some : ℕ → (ℕ → Type 0) → Type 0
-Some n P = (k : ℕ) × (k < n) × P k
 
 -- below n and at n is below n + 1
 pub each-more : {N : ℕ → Type 0} (n : ℕ) → Each n N → N n → Each (suc n) N
@@ -149,6 +141,16 @@ module _ (p : ℕ → Bool) where
   pub some-more : {n : ℕ} {r : Bool} → some? n p ≡ false → r ≡ p n → r ≡ false → some? (n + 1) p ≡ false
   unfolding some?
   some-more h e here = rw (add-one, sym e ∙ here, some?) h
+
+  -- it is told up to n and then of n: it is told up to n + 1
+  pub some-or : {n : ℕ} {t r : Bool} → t ≡ some? n p → r ≡ p n → t || r ≡ some? (n + 1) p
+  unfolding some?
+  some-or {n} {t} {r} h e =
+      rw (add-one, some?) (by (p n) (λ q. rw (q, e ∙ q) (or-true t)) (λ q. rw (q, e ∙ q) (or-false t ∙ h)))
+
+  -- it is told up to the last
+  pub some-last : {n k : ℕ} {t : Bool} → k ≤ n → n ≤ k → t ≡ some? k p → t ≡ some? n p
+  some-last l g h = rw (le-antisymm g l) h
 
   -- the test at k passed: one is found
   pub some-found : {n k : ℕ} {r : Bool} → k < n → r ≡ p k → r ≡ true → true ≡ some? n p

@@ -1,4 +1,5 @@
--- What a reader must believe: the table, the definitions, the answers, the label, the records and the program's text, from the bottom up.
+-- What a reader must believe: the table, the definitions, the answers, the refusals' sentences, the label, the records and the program's
+-- text, from the bottom up.
 pub mod Search
 pub mod Table
 pub mod Ring
@@ -9,6 +10,7 @@ pub mod Smallest
 pub mod Reduced
 pub mod Label
 pub mod Answer
+pub mod Sentences
 pub mod Text
 pub mod Records
 pub mod Ringline

@@ -1,2 +1,9 @@
--- The three demands as theorems.
-pub mod Demands
+-- The demands as theorems over the exported functions' own postconditions.
+--     Answered     demand 1
+--     Exactly      demand 2, over the definitions
+--     Tied         demand 2, over calls
+--     SameLabel    demand 3
+pub mod Answered
+pub mod Exactly
+pub mod Tied
+pub mod SameLabel

@@ -1,2 +1,9 @@
--- What is promised, in one file.
-pub mod Demands
+-- What is promised: what a call is, and the three demands upon it.
+--     Call         a call of an exported function
+--     Answered     demand 1
+--     Exactly      demand 2
+--     SameLabel    demand 3
+pub mod Call
+pub mod Answered
+pub mod Exactly
+pub mod SameLabel

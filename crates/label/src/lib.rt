@@ -20,7 +20,8 @@ fn frerejacque(atoms: u64, bonds: &[u8]) -> u64
 
 // The label: four fields, from the rings, the smallest basis and the assemblies.
 pub fn label(atoms: u64, bonds: &[u8], out: &mut [u8]) -> Answer
-    ensures { λ r. ⌜ outcomeOf (r .number) (r .count) (now (out .exit)) ≡ written (refusalOfRings (table atoms (now (bonds .entry)))) (spec.labelOf (table atoms (now (bonds .entry)))) (now (out .entry)) ⌝ }
+    ensures answer { λ r. ⌜ outcomeOf (r .number) (r .count) (now (out .exit)) ≡ written (refusalOfRings (table atoms (now (bonds .entry)))) (spec.labelOf (table atoms (now (bonds .entry)))) (now (out .entry)) ⌝ }
+    ensures read { λ r. ⌜ now (bonds .exit) ≡ now (bonds .entry) ⌝ }
 {
     let mut all = [0usize; SIZES];
     let mut smallest = [0usize; SIZES];

@@ -1,14 +1,14 @@
 -- The rings of the assemblies, listed one assembly after another and then in order. Assumes nothing.
 use mathlib.Core.Path.{_≡_, subst⁻¹, ap, _∙_}
 use mathlib.Core.List.{List, []}
-use Prim.Native.Nat.{ℕ, _+_, _*_, _^_, _≤_, _<_}
+use Prim.Native.Nat.{ℕ, _+_, _^_, _/_, _≤_, _<_}
 use native.Mathlib.Omega.{arith}
-use lib.ListN.{replicate, length, getD, take, length-replicate}
+use lib.ListN.{length, getD, take}
 use lib.Pow.{pow-mono}
 use Rattle.sets.specs.Bits.{size}
 use Rattle.sets.specs.Bond.{room}
 use Rattle.sets.specs.Lists.{setsIn, words}
-use Rattle.sets.proofs.Lists.{sets-blank}
+use Rattle.sets.proofs.Lists.{sets-length}
 use Rattle.definitions.specs.Search.{sort, gather}
 use Rattle.definitions.specs.Table.{Table}
 use Rattle.definitions.specs.AllRings.{before, allRings}
@@ -36,9 +36,9 @@ listable-room rings members {n} h = omega (arith, all-found-few rings members n,
 pub listable-sums : {members : List ℕ} {n m k a s : ℕ} → Listable members n m → a < n → getD members a 0 ≡ s → k ≡ m → 2 ^ size s ≤ k
 listable-sums {a = a} h l is e = omega (arith, h .sums a l, ap (λ (t : ℕ). 2 ^ size t) is)
 
--- a list of as many empty sets has room where one of m sets has
-pub listable-blank : {members : List ℕ} {n : ℕ} (m : ℕ) → Listable members n m → Listable members n (length (setsIn (replicate (m * words) 0)))
-listable-blank {members} {n} m h = subst⁻¹ (Listable members n) (ap length (sets-blank m) ∙ length-replicate m 0) h
+-- a list of words has room where one of as many sets as it holds has
+pub listable-held : {members : List ℕ} {n : ℕ} (ws : List ℕ) → Listable members n (length ws / words) → Listable members n (length (setsIn ws))
+listable-held {members} {n} ws h = subst⁻¹ (Listable members n) (sets-length ws) h
 
 -- what is found is no more than any list holds that is as long
 pub listable-within : {members start found : List ℕ} {n m k r : ℕ} (rings : List ℕ) → Listable members n m → Appended start 0 (foundIn rings members n) found r → k ≡ m → r ≤ k
@@ -68,12 +68,12 @@ module _ {rings sets : List ℕ} {r : ℕ} (o : Ordered rings sets r) where
 
 module _ {M : Table} {p : Perceived} (seen : Perceives M p) (zero : p .number ≤ 0) where
   -- the longest lists have room for its rings, and so have shorter ones that hold more sets than its assemblies have sums
-  pub perceived-workable : Workable (membersOf (p .assemblies)) (p .assemblies .count) (p .most)
+  pub perceived-workable : Workable (membersOf (p .assemblies)) (p .assemblies .count) (p .sums)
   perceived-workable =
       let small = perceived-small seen zero in
       record {
         longest = record { counted = small .counted; found = perceived-most seen zero; sums = λ a l. omega (arith, pow-mono (small .small a l)) };
-        shorter = λ m h. record { counted = small .counted; found = omega (arith, perceived seen zero .most); sums = perceived-room seen zero h };
+        shorter = λ m h. record { counted = small .counted; found = omega (arith, perceived seen zero .sums); sums = perceived-room seen zero h };
       }
 
   -- an answer that holds what is found of it in order holds all rings

@@ -17,9 +17,9 @@ use room::SHORTER;
 use sets::WORDS;
 ghost use mathlib.Core.Path.{_≡_};
 ghost use mathlib.Core.List.{[]};
-ghost use Prim.Native.Nat.{_≤_};
+ghost use Prim.Native.Nat.{_/_, _≤_};
 ghost use lib.ListN.{length};
-ghost use Rattle.sets.specs.Lists.{setsIn};
+ghost use Rattle.sets.specs.Lists.{setsIn, words};
 ghost use Rattle.definitions.specs.Search.{sort};
 ghost use Rattle.definitions.specs.Table.{table, maxBonds};
 ghost use Rattle.definitions.specs.AllRings.{before, allRings};
@@ -39,7 +39,7 @@ fn write_all(
     ordered: &mut [u64],
     out: &mut [u64],
 ) -> Answer
-    requires { ⌜ Listable (membersOf assemblies) (assemblies .count) (length (setsIn (now found))) × Listable (membersOf assemblies) (assemblies .count) (length (setsIn (now ordered))) ⌝ }
+    requires { ⌜ Listable (membersOf assemblies) (assemblies .count) (length (now found) / words) × Listable (membersOf assemblies) (assemblies .count) (length (now ordered) / words) ⌝ }
     ensures { λ r. ⌜ outcomeOf (r .number) (r .count) (now (out .exit)) ≡ writtenSets 0 (sort before (foundIn (setsIn (now (rings .entry))) (membersOf assemblies) (assemblies .count))) (now (out .entry)) ⌝ }
 {
     let all = list_rings(rings, assemblies, found, ordered);
@@ -55,7 +55,7 @@ fn write_smallest(
     ordered: &mut [u64],
     out: &mut [u64],
 ) -> Answer
-    requires { ⌜ (count ≤ maxBonds) × Spanned count (foundIn (setsIn (now rings)) (membersOf assemblies) (assemblies .count)) × Listable (membersOf assemblies) (assemblies .count) (length (setsIn (now found))) × Listable (membersOf assemblies) (assemblies .count) (length (setsIn (now ordered))) ⌝ }
+    requires { ⌜ (count ≤ maxBonds) × Spanned count (foundIn (setsIn (now rings)) (membersOf assemblies) (assemblies .count)) × Listable (membersOf assemblies) (assemblies .count) (length (now found) / words) × Listable (membersOf assemblies) (assemblies .count) (length (now ordered) / words) ⌝ }
     ensures { λ r. ⌜ outcomeOf (r .number) (r .count) (now (out .exit)) ≡ writtenSets 0 (taking [] (sort before (foundIn (setsIn (now (rings .entry))) (membersOf assemblies) (assemblies .count)))) (now (out .entry)) ⌝ }
 {
     let all = list_rings(rings, assemblies, found, ordered);
@@ -196,7 +196,8 @@ fn smallest_from(
 
 // All rings: sets as words, ordered by size and then as numbers.
 pub fn all_rings(atoms: u64, bonds: &[u8], out: &mut [u64]) -> Answer
-    ensures { λ r. ⌜ outcomeOf (r .number) (r .count) (now (out .exit)) ≡ writtenSets (refusalOfRings (table atoms (now (bonds .entry)))) (allRings (table atoms (now (bonds .entry)))) (now (out .entry)) ⌝ }
+    ensures answer { λ r. ⌜ outcomeOf (r .number) (r .count) (now (out .exit)) ≡ writtenSets (refusalOfRings (table atoms (now (bonds .entry)))) (allRings (table atoms (now (bonds .entry)))) (now (out .entry)) ⌝ }
+    ensures read { λ r. ⌜ now (bonds .exit) ≡ now (bonds .entry) ⌝ }
 {
     let seen = perceive(atoms, bonds);
     if seen.number > 0 {
@@ -206,12 +207,13 @@ pub fn all_rings(atoms: u64, bonds: &[u8], out: &mut [u64]) -> Answer
         };
     }
     let basis = seen.basis;
-    all_from(SHORTER, &basis.rings, seen.assemblies, seen.most, out)
+    all_from(SHORTER, &basis.rings, seen.assemblies, seen.sums, out)
 }
 
 // The smallest basis: sets as words, as they are taken from all rings.
 pub fn smallest_basis(atoms: u64, bonds: &[u8], out: &mut [u64]) -> Answer
-    ensures { λ r. ⌜ outcomeOf (r .number) (r .count) (now (out .exit)) ≡ writtenSets (refusalOfRings (table atoms (now (bonds .entry)))) (smallestBasis (table atoms (now (bonds .entry)))) (now (out .entry)) ⌝ }
+    ensures answer { λ r. ⌜ outcomeOf (r .number) (r .count) (now (out .exit)) ≡ writtenSets (refusalOfRings (table atoms (now (bonds .entry)))) (smallestBasis (table atoms (now (bonds .entry)))) (now (out .entry)) ⌝ }
+    ensures read { λ r. ⌜ now (bonds .exit) ≡ now (bonds .entry) ⌝ }
 {
     let seen = perceive(atoms, bonds);
     if seen.number > 0 {
@@ -226,7 +228,7 @@ pub fn smallest_basis(atoms: u64, bonds: &[u8], out: &mut [u64]) -> Answer
         &basis.rings,
         basis.count,
         seen.assemblies,
-        seen.most,
+        seen.sums,
         out,
     )
 }

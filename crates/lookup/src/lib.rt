@@ -54,7 +54,8 @@ fn found<'a>(list: &'a [u64], size: u64) -> &'a [u64]
 // What is found in the first list, or, where no set there has that size, in the second. Where none of the second has it either, no words, at
 // the place where the first list begins.
 pub fn of_size<'a>(first: &'a [u64], second: &'a [u64], size: u64) -> &'a [u64]
-    ensures { λ r. ⌜ spec.lent r ≡ spec.ofSize size (spec.lent (first .entry)) (spec.lent (second .entry)) ⌝ }
+    ensures part { λ r. ⌜ spec.lent r ≡ spec.ofSize size (spec.lent (first .entry)) (spec.lent (second .entry)) ⌝ }
+    ensures read { λ r. ⌜ (now (first .exit) ≡ now (first .entry)) × (now (second .exit) ≡ now (second .entry)) ⌝ }
 {
     let in_first = found(first, size);
     if 0 < in_first.len() {

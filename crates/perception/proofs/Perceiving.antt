@@ -1,9 +1,9 @@
 -- What is worked out of a table. Its assemblies have so many sums, and no more rings are found in them. Found one assembly after another
 -- and put in order, they are all rings.
---     Untangled members n a    a loop that looks for an assembly with too many basis rings: none of those below a has
---     Added members m n a      a loop that adds up the sums of m assemblies: those below a have n
--- Each has laws `-none` at the start, `-more` for one turn, `-all` at the end. Assumes nothing.
+--     Added members m n a    a loop over m assemblies that adds up their sums: none below a has too many basis rings, and they have n sums
+-- Assumes nothing.
 use mathlib.Core.Path.{_≡_, refl, sym, ap, subst, _∙_}
+use mathlib.Core.Logic.{_≢_}
 use mathlib.Core.Bool.{Bool, true, false, cond}
 use mathlib.Core.List.{List, List·Memᴰ as In}
 use Prim.Native.Nat.{ℕ, zero, suc, _+_, _-_, _*_, _%_, _^_, _<_, _≤_}
@@ -13,62 +13,51 @@ use native.Mathlib.Decide.{le-ind}
 use native.Mathlib.Omega.{arith}
 use lib.ListN.{length, getD, replicate}
 use lib.Pow.{pow-pos, pow-mono}
-use lib.Dec.{ltb}
-use borrow.Author.Tests.{lt-ltb, le-ltb, ltb-false}
+use lib.Dec.{ltb, eqb}
+use borrow.Author.Tests.{ltb-true, ltb-false, eqb-true, eqb-false}
 use Rattle.sets.specs.Bits.{size}
 use Rattle.sets.specs.Ring.{bits, noRings}
 use Rattle.sets.specs.Lists.{words, setsIn}
 use Rattle.sets.proofs.Lists.{sets-blank}
 use Rattle.sets.proofs.Machine.{one-shl, no-rings}
-use Rattle.definitions.specs.Search.{some?, listed, total, sort}
-use Rattle.definitions.specs.Table.{Table, maxBonds, refusal, TANGLED}
+use Rattle.definitions.specs.Search.{Each, Some, some?, listed, total, sort}
+use Rattle.definitions.specs.Table.{Table, maxBonds, TANGLED}
 use Rattle.definitions.specs.Basis.{basisRings}
 use Rattle.definitions.specs.Assembly.{ringsIn, maxAssembly, tangled?}
 use Rattle.definitions.specs.AllRings.{before, allRings}
 use Rattle.definitions.specs.Answer.{refusalOfRings}
-use Rattle.definitions.proofs.Tests.{none-at, some-ext, some-none, some-more, some-found, some-end}
+use Rattle.definitions.proofs.Tests.{by, some-ext, Tells, true-of, false-of, tells-ltb, tells-some}
 use Rattle.definitions.proofs.Lists.{listed-ext, length-gather, getD-same}
 use Rattle.definitions.proofs.Refusals.{Valid, accepted, rings-kept, rings-free, rings-accepted}
 use Rattle.definitions.proofs.Linking.{rings-total}
 use Rattle.cycles.proofs.BasisList.{even-sums}
 use Rattle.cycles.proofs.Bound.{mostRings, total-last, total-share, sums-share}
-use Rattle.basis.specs.Held.{ringsOf, BasisOf, membersOf, AssembliesOf}
+use Rattle.basis.specs.Held.{ringsOf, Holds, BasisOf, membersOf, AssembliesOf}
 use Rattle.basis.specs.declared.basis.Basis.{Basis}
 use Rattle.basis.specs.declared.assembly.Assemblies.{Assemblies}
-use Rattle.basis.proofs.Holding.{members-at, held-assemblies, members-size, picked-all}
+use Rattle.basis.proofs.Holding.{basis-held, SameRings, SameAssemblies, holds-same, assemblies-same, members-at, held-assemblies, members-size, picked-all}
 use Rattle.combining.specs.Gibbs.{combined, foundAt, foundIn}
 use Rattle.combining.proofs.Turns.{found-few}
 use Rattle.combining.proofs.Exactly.{allCombined, all-combined-in, all-combined}
 use Rattle.choosing.specs.Elimination.{Spanned}
-use Rattle.perception.specs.Perceiving.{tangledIn, sumsIn, Small, Nothing, Refused, Accepted, Perceives}
+use Rattle.perception.specs.Perceiving.{sumsIn, Nothing, Refused, Accepted, Perceives}
 use Rattle.perception.specs.declared.Perceived.{Perceived}
 
 -- ---- too many of them
 
--- none of the assemblies below a has too many basis rings
-pub record Untangled (members : List ℕ) (n a : ℕ) : Type 0 where
-  pub within : a ≤ n
-  pub none : some? a (λ k. ltb maxAssembly (size (getD members k 0))) ≡ false
+-- some of the first n assemblies, whose sets of basis rings are given, has too many
+abbrev pub tangledIn : List ℕ → ℕ → Bool
+tangledIn members n = some? n (λ a. ltb maxAssembly (size (getD members a 0)))
 
--- before the first
-pub untangled-none : (members : List ℕ) (n : ℕ) → Untangled members n 0
-untangled-none members n = record { within = omega arith; none = some-none (λ k. ltb maxAssembly (size (getD members k 0))) }
+-- there are no more assemblies than bonds, and none has too many basis rings
+pub record Small (members : List ℕ) (n : ℕ) : Type 0 where
+  pub counted : n ≤ maxBonds
+  pub small : (a : ℕ) → a < n → size (getD members a 0) ≤ maxAssembly
 
-module _ {members : List ℕ} {n a k : ℕ} (u : Untangled members n a) (is : k ≡ size (getD members a 0)) (l : a < n) where
-  -- nor has the next
-  pub untangled-more : k ≤ maxAssembly → Untangled members n (a + 1)
-  untangled-more h = record {
-    within = omega arith;
-    none = some-more (λ i. ltb maxAssembly (size (getD members i 0))) (u .none) refl (le-ltb maxAssembly (size (getD members a 0)) (omega (arith, is)));
-  }
-
-  -- the next has too many
-  pub untangled-found : maxAssembly < k → true ≡ tangledIn members n
-  untangled-found h = some-found (λ i. ltb maxAssembly (size (getD members i 0))) l refl (lt-ltb maxAssembly (size (getD members a 0)) (omega (arith, is)))
-
--- none has
-pub untangled-all : {members : List ℕ} {n a : ℕ} → Untangled members n a → n ≤ a → false ≡ tangledIn members n
-untangled-all {members} u h = some-end (λ k. ltb maxAssembly (size (getD members k 0))) (u .within) h (u .none)
+-- some of the first n assemblies has too many basis rings, or none has
+tells-too-many : (members : List ℕ) (n : ℕ)
+    → Tells (tangledIn members n) (Some n (λ a. maxAssembly < size (getD members a 0))) (Each n (λ a. size (getD members a 0) ≤ maxAssembly))
+tells-too-many members n = tells-some (λ a. tells-ltb _ _) n
 
 -- the test of the assemblies is that of the table
 tangled-test : (M : Table) {s : Assemblies} → AssembliesOf (basisRings M) s → tangledIn (membersOf s) (s .count) ≡ tangled? M
@@ -76,14 +65,6 @@ unfolding tangled?
 tangled-test M {s} h =
     some-ext (s .count) _ (λ a. ltb maxAssembly (length (ringsIn (basisRings M) a))) (λ a l. ap (ltb maxAssembly) (members-size h a l))
     ∙ ap (λ (n : ℕ). some? n (λ a. ltb maxAssembly (length (ringsIn (basisRings M) a)))) (h .count)
-
--- where the test fails, they are small
-pub untangled-small : {rs : List ℕ} {s : Assemblies} {t : Bool} → AssembliesOf rs s → t ≡ tangledIn (membersOf s) (s .count) → t ≡ false
-    → Small (membersOf s) (s .count)
-untangled-small {s = s} h test q = record {
-  counted = h .counted;
-  small = λ a l. ltb-false maxAssembly (size (getD (membersOf s) a 0)) (none-at (s .count) (λ k. ltb maxAssembly (size (getD (membersOf s) k 0))) (sym test ∙ q) a l);
-}
 
 -- ---- how many sums the assemblies have
 
@@ -107,40 +88,54 @@ sums-few members zero small = omega arith
 sums-few members (suc n) small =
     omega (arith, total-last n (sumsAt members), sums-few members n (λ a l. small a (omega arith)), pow-mono (small n (omega arith)))
 
--- n is what the assemblies below a have
+-- no assembly below a has too many basis rings, and n is how many sums these have
 pub record Added (members : List ℕ) (m n a : ℕ) : Type 0 where
   pub within : a ≤ m
+  pub small : Each a (λ b. size (getD members b 0) ≤ maxAssembly)
   pub sum : n ≡ sumsIn members a
 
 -- before the first
 pub added-none : (members : List ℕ) (m : ℕ) → Added members m 0 0
 unfolding listed total
-added-none members m = record { within = omega arith; sum = refl }
+added-none members m = record { within = omega arith; small = λ b l. absurd (omega arith); sum = refl }
 
-module _ {members : List ℕ} {m n a k : ℕ} (d : Added members m n a) (small : Small members m) (l : a < m) (is : k ≡ size (getD members a 0)) where
-  -- the next has not too many
-  pub added-few : k ≤ maxAssembly
-  added-few = omega (arith, is, small .small a l)
+module _ {members : List ℕ} {m n a k : ℕ} (d : Added members m n a) (l : a < m) (is : k ≡ size (getD members a 0)) where
+  -- the next has too many
+  pub added-tangled : maxAssembly < k → tangledIn members m ≡ true
+  added-tangled h = true-of (tells-too-many members m) (a, l, omega (arith, is))
 
-  -- so 1 moved up by as many digits fits in a word
-  moved : (1 * 2 ^ k) % 2 ^ 64 ≡ 2 ^ k
-  moved = one-shl 64 k (omega (arith, added-few))
+  module _ (few : k ≤ maxAssembly) where
+    -- 1 moved up by as many digits fits in a word
+    moved : (1 * 2 ^ k) % 2 ^ 64 ≡ 2 ^ k
+    moved = one-shl 64 k (omega arith)
 
-  -- one of its sums is empty
-  pub added-empty : 1 ≤ (1 * 2 ^ k) % 2 ^ 64
-  added-empty = omega (arith, moved, pow-pos k)
+    -- one of its sums is empty
+    pub added-empty : 1 ≤ (1 * 2 ^ k) % 2 ^ 64
+    added-empty = omega (arith, moved, pow-pos k)
 
-  -- so many are the others, and the number is no more than a word holds
-  pub added-fits : n + ((1 * 2 ^ k) % 2 ^ 64 - 1) < 2 ^ 64
-  added-fits = omega (arith, moved, pow-mono added-few, d .sum, sums-few members a (λ b h. small .small b (omega arith)), small .counted)
+    -- so many are the others, and the number is no more than a word holds
+    pub added-fits : m ≤ maxBonds → n + ((1 * 2 ^ k) % 2 ^ 64 - 1) < 2 ^ 64
+    added-fits counted = omega (arith, moved, pow-mono few, d .sum, sums-few members a (d .small))
 
-  -- they are added
-  pub added-more : Added members m (n + ((1 * 2 ^ k) % 2 ^ 64 - 1)) (a + 1)
-  added-more = record { within = omega arith; sum = rw (moved, is) (omega (arith, d .sum, sums-next members a)) }
+    -- they are added
+    pub added-more : Added members m (n + ((1 * 2 ^ k) % 2 ^ 64 - 1)) (a + 1)
+    added-more = record {
+      within = omega arith;
+      small = λ b h. by (ltb b a) (λ t. d .small b (ltb-true b a t)) (λ t. omega (arith, is, ap (λ (i : ℕ). size (getD members i 0)) (at b h t)));
+      sum = rw (moved, is) (omega (arith, d .sum, sums-next members a));
+    }
+      where
+        at : (b : ℕ) → b < a + 1 → ltb b a ≡ false → b ≡ a
+        at b h t = omega (arith, ltb-false b a t)
 
--- all of them
-pub added-all : {members : List ℕ} {m n a : ℕ} → Added members m n a → m ≤ a → n ≡ sumsIn members m
-added-all {members} d h = d .sum ∙ ap (sumsIn members) (le-antisymm (d .within) h)
+module _ {members : List ℕ} {m n a : ℕ} (d : Added members m n a) (h : m ≤ a) where
+  -- none has too many
+  pub added-untangled : tangledIn members m ≡ false
+  added-untangled = false-of (tells-too-many members m) (λ b l. d .small b (omega arith))
+
+  -- these are all sums
+  pub added-all : n ≡ sumsIn members m
+  added-all = d .sum ∙ ap (sumsIn members) (le-antisymm (d .within) h)
 
 -- ---- what the combination finds in them
 
@@ -161,7 +156,7 @@ all-found-most rings members n small = omega (arith, all-found-few rings members
 -- ---- the answers
 
 -- lists of empty sets hold nothing
-pub nothing-held : Nothing (record { rings = replicate (maxBonds * words) 0; count = 0 }) (record { members = replicate maxBonds noRings; count = 0 })
+pub nothing-held : {number : ℕ} → Nothing (record { number = number; rings = replicate (maxBonds * words) 0; count = 0 }) (record { members = replicate maxBonds noRings; count = 0 })
 nothing-held = record {
   rings = refl;
   sets = λ i. ap (λ (l : List ℕ). getD l i 0) (sets-blank maxBonds) ∙ getD-same maxBonds i 0;
@@ -170,30 +165,78 @@ nothing-held = record {
 }
 
 -- the table is refused
-pub perceives-refused : {M : Table} {p : Perceived} {number : ℕ} → number ≡ refusal M → 0 < number → Refused number p → Perceives M p
-perceives-refused {M} {p} {number} given h r =
-    let kept : number ≡ refusalOfRings M = given ∙ sym (rings-kept M (λ z. absurd (omega arith))) in
+pub perceives-refused : {M : Table} {b : Basis} {p : Perceived} → BasisOf M b → 0 < b .number → Refused (b .number) p → Perceives M p
+perceives-refused {M} {b} {p} basis h r =
+    let kept : b .number ≡ refusalOfRings M = basis .number ∙ sym (rings-kept M (λ z. absurd (omega (arith, basis .number)))) in
     record { number = r .number ∙ kept; refused = λ n. subst (λ c. Refused c p) kept r; accepted = λ z. absurd (omega arith) }
 
-module _ {M : Table} {b : Basis} {s : Assemblies} {number : ℕ} (given : number ≡ refusal M) (zero : number ≤ 0) (held : BasisOf M b) (h : AssembliesOf (ringsOf b) s)
-    {t : Bool} (test : t ≡ tangledIn (membersOf s) (s .count)) where
-  -- the assemblies alone decide
-  decided : {c : Bool} → t ≡ c → refusalOfRings M ≡ cond c TANGLED 0
-  decided e = rings-free M (omega arith) ∙ ap (λ c. cond c TANGLED 0) (sym (tangled-test M (held-assemblies held h)) ∙ sym test ∙ e)
+module _ {M : Table} {b : Basis} {s : Assemblies} (basis : BasisOf M b) (zero : b .number ≤ 0) (h : AssembliesOf (ringsOf b) s)
+  where
+    held : Holds M b
+    held = basis-held basis zero
 
-  -- an assembly has too many basis rings
-  pub perceives-tangled : {p : Perceived} → t ≡ true → Refused TANGLED p → Perceives M p
-  perceives-tangled {p} q r =
-      let e : TANGLED ≡ refusalOfRings M = sym (decided q) in
-      record { number = r .number ∙ e; refused = λ n. subst (λ c. Refused c p) e r; accepted = λ z. absurd (omega arith) }
+    -- the assemblies alone decide
+    decided : {c : Bool} → tangledIn (membersOf s) (s .count) ≡ c → refusalOfRings M ≡ cond c TANGLED 0
+    decided e = rings-free M (omega (arith, basis .number)) ∙ ap (λ c. cond c TANGLED 0) (sym (tangled-test M (held-assemblies held h)) ∙ e)
 
-  -- none has
-  pub perceives-all : {n : ℕ} → t ≡ false → n ≡ sumsIn (membersOf s) (s .count) → Perceives M (record { number = 0; basis = b; assemblies = s; most = n })
-  perceives-all q e = record {
-    number = sym (decided q);
-    refused = λ n. absurd (n (decided q));
-    accepted = λ z. record { basis = held; assemblies = held-assemblies held h; most = e };
-  }
+    -- an assembly has too many basis rings
+    pub perceives-tangled : {p : Perceived} → tangledIn (membersOf s) (s .count) ≡ true → Refused TANGLED p → Perceives M p
+    perceives-tangled {p} q r =
+        let e : TANGLED ≡ refusalOfRings M = sym (decided q) in
+        record { number = r .number ∙ e; refused = λ n. subst (λ c. Refused c p) e r; accepted = λ z. absurd (omega arith) }
+
+    -- none has
+    pub perceives-all : {n : ℕ} → tangledIn (membersOf s) (s .count) ≡ false → n ≡ sumsIn (membersOf s) (s .count) → Perceives M (record { number = 0; basis = b; assemblies = s; sums = n })
+    perceives-all q e = record {
+      number = sym (decided q);
+      refused = λ n. absurd (n (decided q));
+      accepted = λ z. record { clear = omega arith; basis = held; assemblies = held-assemblies held h; sums = e };
+    }
+
+-- ---- one outcome only
+
+-- two of which nothing differs
+pub record Same (p q : Perceived) : Type 0 where
+  pub number : p .number ≡ q .number
+  pub basis : (p .basis .number ≡ q .basis .number) × SameRings (p .basis) (q .basis)
+  pub assemblies : SameAssemblies (p .assemblies) (q .assemblies)
+  pub sums : p .sums ≡ q .sums
+
+-- as many assemblies with the same sets have as many sums
+sums-same : (s t : Assemblies) → SameAssemblies s t → sumsIn (membersOf s) (s .count) ≡ sumsIn (membersOf t) (t .count)
+sums-same s t (count, members) =
+    ap total (listed-ext (s .count) (λ a. true) (λ a. true) (sumsAt (membersOf s)) (sumsAt (membersOf t)) (λ a l. refl) (λ a l h. ap (λ (m : ℕ). 2 ^ size m - 1) (members a)))
+    ∙ ap (sumsIn (membersOf t)) count
+
+-- what two calls work out of one table differs in nothing
+pub perceives-same : {M : Table} {p q : Perceived} → Perceives M p → Perceives M q → Same p q
+perceives-same {M} {p} {q} h k = by (eqb (refusalOfRings M) 0) (λ t. both (eqb-true (refusalOfRings M) 0 t)) (λ t. none (eqb-false (refusalOfRings M) 0 t))
+  where
+    number : p .number ≡ q .number
+    number = h .number ∙ sym (k .number)
+
+    both : refusalOfRings M ≡ 0 → Same p q
+    both z =
+        let a = h .accepted z in
+        let b = k .accepted z in
+        let parts = assemblies-same (a .assemblies) (b .assemblies) in
+        record {
+          number = number;
+          basis = (a .clear ∙ sym (b .clear), holds-same (a .basis) (b .basis));
+          assemblies = parts;
+          sums = a .sums ∙ sums-same (p .assemblies) (q .assemblies) parts ∙ sym (b .sums);
+        }
+
+    none : refusalOfRings M ≢ 0 → Same p q
+    none n =
+        let a = h .refused n in
+        let b = k .refused n in
+        record {
+          number = number;
+          basis = (a .same ∙ sym (b .same), (a .nothing .rings ∙ sym (b .nothing .rings), λ i. a .nothing .sets i ∙ sym (b .nothing .sets i)));
+          assemblies = (a .nothing .assemblies ∙ sym (b .nothing .assemblies), λ i. a .nothing .members i ∙ sym (b .nothing .members i));
+          sums = a .sums ∙ sym (b .sums);
+        }
 
 -- ---- what is worked out of an accepted table
 
@@ -212,7 +255,10 @@ module _ {M : Table} {p : Perceived} (seen : Perceives M p) (zero : p .number �
 
   -- the assemblies are small
   pub perceived-small : Small (membersOf (p .assemblies)) (p .assemblies .count)
-  perceived-small = untangled-small (perceived .assemblies) refl (tangled-test M (perceived .assemblies) ∙ rings-accepted M .0 unrefused .1)
+  perceived-small = record {
+    counted = perceived .assemblies .counted;
+    small = tells-too-many (membersOf (p .assemblies)) (p .assemblies .count) .no-says (tangled-test M (perceived .assemblies) ∙ rings-accepted M .0 unrefused .1);
+  }
 
   -- what the combination finds in them
   abbrev found : List ℕ
@@ -236,10 +282,10 @@ module _ {M : Table} {p : Perceived} (seen : Perceives M p) (zero : p .number �
   )
 
   -- a list that is longer than they have sums which are not empty has room for the sums of each
-  pub perceived-room : {n : ℕ} → p .most < n → (a : ℕ) → a < p .assemblies .count → 2 ^ size (getD (membersOf (p .assemblies)) a 0) ≤ n
+  pub perceived-room : {n : ℕ} → p .sums < n → (a : ℕ) → a < p .assemblies .count → 2 ^ size (getD (membersOf (p .assemblies)) a 0) ≤ n
   perceived-room h a l =
       let members = membersOf (p .assemblies) in
-      omega (arith, perceived .most, sums-next members a, sums-mono members (a + 1) (p .assemblies .count) (omega arith))
+      omega (arith, perceived .sums, sums-next members a, sums-mono members (a + 1) (p .assemblies .count) (omega arith))
 
   -- they have no more sums than those of any table
   pub perceived-most : sumsIn (membersOf (p .assemblies)) (p .assemblies .count) ≤ mostRings

@@ -1,19 +1,17 @@
 -- What is worked out of a table for all rings, the smallest basis and the label, before any ring is combined. Assumes nothing.
 use mathlib.Core.Path.{_≡_}
 use mathlib.Core.Logic.{_≢_}
-use mathlib.Core.Bool.{Bool, true}
+use mathlib.Core.Bool.{true}
 use mathlib.Core.List.{List}
-use Prim.Native.Nat.{ℕ, _-_, _^_, _≤_, _<_}
-use lib.Dec.{ltb}
+use Prim.Native.Nat.{ℕ, _-_, _^_}
 use lib.ListN.{getD}
 use Rattle.sets.specs.Bits.{size}
 use Rattle.sets.specs.Lists.{setsIn}
-use Rattle.definitions.specs.Search.{some?, listed, total}
-use Rattle.definitions.specs.Table.{Table, maxBonds}
+use Rattle.definitions.specs.Search.{listed, total}
+use Rattle.definitions.specs.Table.{Table}
 use Rattle.definitions.specs.Basis.{basisRings}
-use Rattle.definitions.specs.Assembly.{maxAssembly}
 use Rattle.definitions.specs.Answer.{refusalOfRings}
-use Rattle.basis.specs.Held.{BasisOf, membersOf, AssembliesOf}
+use Rattle.basis.specs.Held.{Holds, membersOf, AssembliesOf}
 use Rattle.basis.specs.declared.basis.Basis.{Basis}
 use Rattle.basis.specs.declared.assembly.Assemblies.{Assemblies}
 use Rattle.perception.specs.declared.Perceived.{Perceived}
@@ -25,18 +23,9 @@ few = 32
 abbrev pub many : ℕ
 many = 1024
 
--- some of the first n assemblies, whose sets of basis rings are given, has too many
-abbrev pub tangledIn : List ℕ → ℕ → Bool
-tangledIn members n = some? n (λ a. ltb maxAssembly (size (getD members a 0)))
-
--- how many sums that are not empty they have: k basis rings have 2 ^ k - 1
+-- how many sums that are not empty the first n assemblies have, whose sets of basis rings are given: k basis rings have 2 ^ k - 1
 abbrev pub sumsIn : List ℕ → ℕ → ℕ
 sumsIn members n = total (listed n (λ a. true) (λ a. 2 ^ size (getD members a 0) - 1))
-
--- there are no more assemblies than bonds, and none has too many basis rings
-pub record Small (members : List ℕ) (n : ℕ) : Type 0 where
-  pub counted : n ≤ maxBonds
-  pub small : (a : ℕ) → a < n → size (getD members a 0) ≤ maxAssembly
 
 -- no basis rings and no assemblies: empty sets
 pub record Nothing (b : Basis) (s : Assemblies) : Type 0 where
@@ -48,14 +37,16 @@ pub record Nothing (b : Basis) (s : Assemblies) : Type 0 where
 -- of a refused table: the number of the refusal, and nothing else
 pub record Refused (c : ℕ) (p : Perceived) : Type 0 where
   pub number : p .number ≡ c
-  pub most : p .most ≡ 0
+  pub same : p .basis .number ≡ c
+  pub sums : p .sums ≡ 0
   pub nothing : Nothing (p .basis) (p .assemblies)
 
 -- of an accepted table: the basis rings and the assemblies, and how many sums these have
 pub record Accepted (M : Table) (p : Perceived) : Type 0 where
-  pub basis : BasisOf M (p .basis)
+  pub clear : p .basis .number ≡ 0
+  pub basis : Holds M (p .basis)
   pub assemblies : AssembliesOf (basisRings M) (p .assemblies)
-  pub most : p .most ≡ sumsIn (membersOf (p .assemblies)) (p .assemblies .count)
+  pub sums : p .sums ≡ sumsIn (membersOf (p .assemblies)) (p .assemblies .count)
 
 -- the number of the refusal and nothing else, or 0 and what is worked out
 pub record Perceives (M : Table) (p : Perceived) : Type 0 where

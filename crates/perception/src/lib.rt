@@ -7,11 +7,8 @@ use answers::TANGLED;
 use basis::Assemblies;
 use basis::Basis;
 use sets::RingSet;
-ghost use mathlib.Core.Path.{_≡_};
-ghost use Prim.Native.Nat.{_≤_};
-ghost use Rattle.definitions.specs.Table.{table, maxBonds};
-ghost use Rattle.basis.specs.Held.{membersOf};
-ghost use Rattle.perception.specs.Perceiving.{tangledIn, sumsIn, Small, Refused, Perceives};
+ghost use Rattle.definitions.specs.Table.{table};
+ghost use Rattle.perception.specs.Perceiving.{Refused, Perceives};
 
 // How many sets such a list holds. It is cleared before it is used, so the shortest is taken that has room. This one is for tables with
 // fewer sums than that, as drug-like ones have.
@@ -26,7 +23,7 @@ pub struct Perceived {
     pub number: u8,
     pub basis: Basis,
     pub assemblies: Assemblies,
-    pub most: usize,
+    pub sums: usize,
 }
 
 // A refusal, with nothing worked out.
@@ -34,6 +31,7 @@ fn refused(number: u8) -> Perceived
     ensures { λ r. ⌜ Refused number r ⌝ }
 {
     let basis = Basis {
+        number,
         rings: [0u64; BASIS_WORDS],
         count: 0,
     };
@@ -45,57 +43,33 @@ fn refused(number: u8) -> Perceived
         number,
         basis,
         assemblies,
-        most: 0,
+        sums: 0,
     }
 }
 
-// Has an assembly too many basis rings?
-fn tangled(found: Assemblies) -> bool
-    requires { ⌜ found .count ≤ maxBonds ⌝ }
-    ensures { λ r. ⌜ r ≡ tangledIn (membersOf found) (found .count) ⌝ }
-{
-    let mut a: usize = 0;
-    while a < found.count {
-        if found.members[a].size() > MAX_ASSEMBLY {
-            return true;
-        }
-        a += 1;
-    }
-    false
-}
-
-// How many sums that are not empty the assemblies have.
-fn most_of(found: Assemblies) -> usize
-    requires { ⌜ Small (membersOf found) (found .count) ⌝ }
-    ensures { λ r. ⌜ r ≡ sumsIn (membersOf found) (found .count) ⌝ }
-{
-    let mut most: usize = 0;
-    let mut a: usize = 0;
-    while a < found.count {
-        most += (1 << found.members[a].size()) - 1;
-        a += 1;
-    }
-    most
-}
-
-// What is worked out of a table.
+// What is worked out of a table. An assembly of k basis rings has 2 ^ k - 1 sums that are not empty.
 pub fn perceive(atoms: u64, bonds: &[u8]) -> Perceived
     ensures { λ r. ⌜ Perceives (table atoms (now (bonds .entry))) r ⌝ }
 {
-    let number = table::refusal_of(atoms, bonds);
-    if number > 0 {
-        return refused(number);
-    }
     let basis = basis::basis_of(atoms, bonds);
-    let assemblies = basis::assemblies_of(&basis.rings, basis.count);
-    if tangled(assemblies) {
-        return refused(TANGLED);
+    if basis.number > 0 {
+        return refused(basis.number);
     }
-    let most = most_of(assemblies);
+    let assemblies = basis::assemblies_of(&basis.rings, basis.count);
+    let mut sums: usize = 0;
+    let mut a: usize = 0;
+    while a < assemblies.count {
+        let rings = assemblies.members[a].size();
+        if rings > MAX_ASSEMBLY {
+            return refused(TANGLED);
+        }
+        sums += (1 << rings) - 1;
+        a += 1;
+    }
     Perceived {
         number: 0,
         basis,
         assemblies,
-        most,
+        sums,
     }
 }

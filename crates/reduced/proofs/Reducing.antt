@@ -16,7 +16,7 @@ use Rattle.definitions.specs.Reduced.{reduced, reducedBasis}
 use Rattle.definitions.proofs.Linking.{length-assembled}
 use Rattle.basis.specs.declared.basis.Basis.{Basis}
 use Rattle.basis.specs.declared.assembly.Assemblies.{Assemblies}
-use Rattle.basis.specs.Held.{ringsOf, BasisOf, membersOf, AssembliesOf}
+use Rattle.basis.specs.Held.{ringsOf, Holds, membersOf, AssembliesOf}
 use Rattle.basis.proofs.Holding.{held-assemblies, members-at, picked-all}
 use Rattle.reduced.specs.Picked.{pickedBy}
 use Rattle.reduced.specs.Reduces.{Reduces}
@@ -32,7 +32,7 @@ pub reduced-counted : (M : Table) {n : ℕ} → n ≡ length (basisRings M) → 
 unfolding reducedBasis
 reduced-counted M e = e ∙ sym (gather-reduced-length (assemblyCount (basisRings M)) (ringsIn (basisRings M)) ∙ length-assembled (basisRings M))
 
-module _ {M : Table} {b : Basis} {s : Assemblies} (basis : BasisOf M b) (parts : AssembliesOf (ringsOf b) s) where
+module _ {M : Table} {b : Basis} {s : Assemblies} (basis : Holds M b) (parts : AssembliesOf (ringsOf b) s) where
   -- what is picked fits where there is a place for each bond
   pub picked-fits : (blank : List ℕ) → setsIn blank ≡ replicate maxBonds 0
       → (s .count ≤ maxBonds) × (length (gather (s .count) (pickedBy (setsIn (b .rings)) (membersOf s))) ≤ length (setsIn blank))

@@ -24,15 +24,14 @@ pub fn reduce(atoms: u64, bonds: &[u8]) -> Reduced
     ensures { λ r. ⌜ Reduces (table atoms (now (bonds .entry))) r ⌝ }
 {
     let mut sets = [0u64; BASIS_WORDS];
-    let number = table::refusal_of(atoms, bonds);
-    if number > 0 {
+    let basis = basis::basis_of(atoms, bonds);
+    if basis.number > 0 {
         return Reduced {
-            number,
+            number: basis.number,
             sets,
             count: 0,
         };
     }
-    let basis = basis::basis_of(atoms, bonds);
     let assemblies = basis::assemblies_of(&basis.rings, basis.count);
     reduce_all(&basis.rings, assemblies, &mut sets);
     Reduced {
@@ -44,7 +43,8 @@ pub fn reduce(atoms: u64, bonds: &[u8]) -> Reduced
 
 // The reduced basis: sets as words, assemblies in order; the refusals of a table, then 8.
 pub fn reduced_basis(atoms: u64, bonds: &[u8], out: &mut [u64]) -> Answer
-    ensures { λ r. ⌜ outcomeOf (r .number) (r .count) (now (out .exit)) ≡ writtenSets (refusal (table atoms (now (bonds .entry)))) (reducedBasis (table atoms (now (bonds .entry)))) (now (out .entry)) ⌝ }
+    ensures answer { λ r. ⌜ outcomeOf (r .number) (r .count) (now (out .exit)) ≡ writtenSets (refusal (table atoms (now (bonds .entry)))) (reducedBasis (table atoms (now (bonds .entry)))) (now (out .entry)) ⌝ }
+    ensures read { λ r. ⌜ now (bonds .exit) ≡ now (bonds .entry) ⌝ }
 {
     let found = reduce(atoms, bonds);
     if found.number > 0 {

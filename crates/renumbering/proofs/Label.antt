@@ -1,6 +1,7 @@
 -- The label's answers for renumbered tables agree: each of its four fields is made of what renumbering keeps, and so is each refusal. The
 -- length of the lent list decides whether there is room. Assumes nothing.
 use mathlib.Core.Path.{_≡_, refl, sym, ap, ap₂, subst, _∙_}
+use mathlib.Core.Logic.{_≢_}
 use mathlib.Core.Bool.{Bool, true, false, cond}
 use mathlib.Core.List.{List, [], _∷_, _++_, map}
 use Prim.Native.Nat.{ℕ, zero, suc, _+_, _-_}
@@ -9,9 +10,9 @@ use lib.Seq.{take-append-seam}
 use lib.Dec.{eqb, leb}
 use borrow.Author.Tests.{eqb-true, eqb-false}
 use Rattle.sets.specs.Bits.{size}
-use Rattle.definitions.specs.Table.{Table, maxBonds, refusal, TANGLED}
+use Rattle.definitions.specs.Table.{Table, maxBonds, refusal, TANGLED, ROOM}
 use Rattle.definitions.specs.Label.{bytesOf, bytesOfAll, field, occurs, histogram, frerejacque, frerejacqueTag, ringsTag, smallestTag, assembliesTag, labelOf}
-use Rattle.definitions.specs.Answer.{over, outcome, written, refusalOfRings}
+use Rattle.definitions.specs.Answer.{Outcome, over, outcome, written, refusalOfRings}
 use Rattle.definitions.proofs.Tests.{by}
 use Rattle.definitions.proofs.Lists.{gather-ext}
 use Rattle.definitions.proofs.Refusals.{Valid, accepted, rings-kept, rings-free, rings-accepted}
@@ -70,6 +71,18 @@ outcome-agrees zero wanted lent lent′ e =
     (λ t. rw (t, ap (leb (length wanted)) (sym e) ∙ t) (record { number = refl; count = refl; written = refl }))
 outcome-agrees (suc c) wanted lent lent′ e = record { number = refl; count = refl; written = refl }
 
+-- and so do answers written to lists that are long enough
+outcome-fits : (c : ℕ) (wanted lent lent′ : List ℕ) → written c wanted lent .number ≢ ROOM → written c wanted lent′ .number ≢ ROOM
+    → Agree (written c wanted lent) (written c wanted lent′)
+unfolding written outcome over
+outcome-fits zero wanted lent lent′ h g =
+    by (leb (length wanted) (length lent))
+    (λ t. by (leb (length wanted) (length lent′))
+    (λ u. rw (t, u) (record { number = refl; count = refl; written = take-append-seam wanted _ ∙ sym (take-append-seam wanted _) }))
+    (λ u. absurd (g (rw u))))
+    (λ t. absurd (h (rw t)))
+outcome-fits (suc c) wanted lent lent′ h g = record { number = refl; count = refl; written = refl }
+
 module _ {M N : Table} (r : Renumbered M N) (inside : InRange M) where
   -- with the same lent list, renumbered tables get the same answer
   pub label-answer-same : (lent : List ℕ) → written (refusalOfRings M) (labelOf M) lent ≡ written (refusalOfRings N) (labelOf N) lent
@@ -81,3 +94,11 @@ module _ {M N : Table} (r : Renumbered M N) (inside : InRange M) where
   pub label-of-renumbered : (lent lent′ : List ℕ) → length lent ≡ length lent′ → Agree (written (refusalOfRings M) (labelOf M) lent) (written (refusalOfRings N) (labelOf N) lent′)
   label-of-renumbered lent lent′ e =
       subst (λ x. Agree x (written (refusalOfRings N) (labelOf N) lent′)) (sym (label-answer-same lent)) (outcome-agrees (refusalOfRings N) (labelOf N) lent lent′ e)
+
+  -- so they do with lists of any lengths that are enough
+  pub label-fits-renumbered : (lent lent′ : List ℕ) → written (refusalOfRings M) (labelOf M) lent .number ≢ ROOM
+      → written (refusalOfRings N) (labelOf N) lent′ .number ≢ ROOM
+      → Agree (written (refusalOfRings M) (labelOf M) lent) (written (refusalOfRings N) (labelOf N) lent′)
+  label-fits-renumbered lent lent′ h g =
+      subst (λ x. Agree x (written (refusalOfRings N) (labelOf N) lent′)) (sym (label-answer-same lent))
+      (outcome-fits (refusalOfRings N) (labelOf N) lent lent′ (λ z. h (ap (λ (o : Outcome (List ℕ)). o .number) (label-answer-same lent) ∙ z)) g)

@@ -27,7 +27,7 @@ few M e = accepted M .0 (rings-accepted M .0 e .0) .few-bonds
 
 -- the answer of a label that has room: its number is the refusal, its bytes lie within the list, and the line of record n made of it is the
 -- line of the table
-pub record Answered (M : Table) (number count : ℕ) (out : List ℕ) : Type 0 where
+pub record Replied (M : Table) (number count : ℕ) (out : List ℕ) : Type 0 where
   pub told : number ≡ refusalOfRings M
   pub within : count ≤ length out
   pub line : (n : ℕ) → answerLine n number (take count out) ≡ recordLine n M
@@ -39,11 +39,11 @@ line-as M c l e t n = ap₂ (λ (c : ℕ) (t : List ℕ). decimal n ++ (space �
 
 -- a label of 512 bytes of room is answered by the table's refusal or by itself
 pub answered : (M : Table) (number count : ℕ) (out lent : List ℕ) → labelRoom ≤ length lent
-    → outcomeOf number count out ≡ written (refusalOfRings M) (labelOf M) lent → Answered M number count out
+    → outcomeOf number count out ≡ written (refusalOfRings M) (labelOf M) lent → Replied M number count out
 unfolding outcome written over
 answered M number count out lent h o = go (refusalOfRings M) refl o
   where
-    go : (c : ℕ) → c ≡ refusalOfRings M → outcomeOf number count out ≡ written c (labelOf M) lent → Answered M number count out
+    go : (c : ℕ) → c ≡ refusalOfRings M → outcomeOf number count out ≡ written c (labelOf M) lent → Replied M number count out
     go zero e o =
         let room : length (labelOf M) ≤ length lent = omega (arith, label-most M (few M (sym e)), few M (sym e)) in
         let all : outcomeOf number count out ≡ outcomeOf 0 (length (labelOf M)) (labelOf M ++ drop (length (labelOf M)) lent) = rw (le-leb (length (labelOf M)) (length lent) room) at o in
@@ -61,7 +61,7 @@ answered M number count out lent h o = go (refusalOfRings M) refl o
 -- the same of a record that ends where its length says
 pub record-answered : (bs : List ℕ) {a e : ℕ} (number count : ℕ) (out lent : List ℕ) → a ≡ getD bs 3 0 → e ≡ recordBytes bs → labelRoom ≡ length lent
     → (let M = table a (take (e - headBytes) (drop headBytes bs)) in outcomeOf number count out ≡ written (refusalOfRings M) (labelOf M) lent)
-    → Answered (recordTable bs) number count out
+    → Replied (recordTable bs) number count out
 record-answered bs {a} {e} number count out lent s h r o =
     let b : e - headBytes ≡ lengthAt bs 5 = omega arith in
     answered (recordTable bs) number count out lent (omega arith) (rw (s, b) at o)

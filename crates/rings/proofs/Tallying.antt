@@ -4,7 +4,7 @@ use mathlib.Core.Path.{_≡_, refl, sym, ap, subst, subst⁻¹, _∙_}
 use mathlib.Core.Logic.{_≢_}
 use mathlib.Core.Bool.{false}
 use mathlib.Core.List.{List, [], _∷_, map, map-append, List·Memᴰ as In, List·Memᴰ·head as here}
-use Prim.Native.Nat.{ℕ, _+_, _^_, _<_, _≤_, max}
+use Prim.Native.Nat.{ℕ, _+_, _^_, _/_, _<_, _≤_, max}
 use native.Mathlib.Nat.{le-antisymm}
 use native.Mathlib.Omega.{arith}
 use lib.ListN.{length, take, getD, length-map, List·getD-eq-default}
@@ -14,6 +14,8 @@ use borrow.Author.Tests.{ltb-true, ltb-false}
 use Rattle.sets.specs.Bits.{has, size, meet}
 use Rattle.sets.specs.Ring.{room}
 use Rattle.sets.specs.Bond as bond
+use Rattle.sets.specs.Lists.{setsIn, words}
+use Rattle.sets.proofs.Lists.{sets-length}
 use Rattle.definitions.specs.Table.{allSizes}
 use Rattle.definitions.specs.Search.{sort, insert, picked}
 use Rattle.definitions.specs.AllRings.{before}
@@ -182,9 +184,9 @@ counted-none rings members n all smallest = record {
       (tallied-none all, subst⁻¹ (λ l. Tallied l smallest 0 smallest 0) taken-nil (tallied-none smallest));
 }
 
--- they are apart in lists that hold as many sets
-pub separate-as : {rings members : List ℕ} {n m k : ℕ} → k ≡ m → Separate rings members n m → Separate rings members n k
-separate-as {rings} {members} {n} e s = subst⁻¹ (Separate rings members n) e s
+-- a list of as many words holds as many sets
+pub as-many-sets : (ws : List ℕ) {n : ℕ} → length ws ≡ n → length (setsIn ws) ≡ n / words
+as-many-sets ws e = sets-length ws ∙ ap (λ (n : ℕ). n / words) e
 
 module _ {rings members : List ℕ} {n m : ℕ} (s : Separate rings members n m) {a : ℕ} (l : a < n) where
   -- assembly a is one by itself

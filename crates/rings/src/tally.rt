@@ -10,9 +10,10 @@ use ordering::order_rings;
 use sets::RingSet;
 ghost use mathlib.Core.Path.{_≡_};
 ghost use mathlib.Core.List.{[]};
+ghost use Prim.Native.Nat.{_/_};
 ghost use lib.ListN.{length};
 ghost use Rattle.sets.specs.Ring.{bits};
-ghost use Rattle.sets.specs.Lists.{setsIn};
+ghost use Rattle.sets.specs.Lists.{setsIn, words};
 ghost use Rattle.definitions.specs.Search.{sort, picked};
 ghost use Rattle.definitions.specs.AllRings.{before};
 ghost use Rattle.definitions.specs.Smallest.{taking};
@@ -55,7 +56,7 @@ pub(crate) fn count_assemblies(
     all: &mut [usize; SIZES],
     smallest: &mut [usize; SIZES],
 ) -> usize
-    requires { ⌜ Separate (setsIn (now rings)) (membersOf assemblies) (assemblies .count) (length (setsIn (now found))) × Separate (setsIn (now rings)) (membersOf assemblies) (assemblies .count) (length (setsIn (now ordered))) × Countable (now all) mostInAll × Countable (now smallest) mostInAll ⌝ }
+    requires { ⌜ Separate (setsIn (now rings)) (membersOf assemblies) (assemblies .count) (length (now found) / words) × Separate (setsIn (now rings)) (membersOf assemblies) (assemblies .count) (length (now ordered) / words) × Countable (now all) mostInAll × Countable (now smallest) mostInAll ⌝ }
     ensures all { λ r. ⌜ Tallied (foundIn (setsIn (now (rings .entry))) (membersOf assemblies) (assemblies .count)) (now (all .entry)) 0 (now (all .exit)) r ⌝ }
     ensures smallest { λ r. ⌜ Tallied (taking [] (sort before (foundIn (setsIn (now (rings .entry))) (membersOf assemblies) (assemblies .count)))) (now (smallest .entry)) 0 (now (smallest .exit)) r ⌝ }
 {

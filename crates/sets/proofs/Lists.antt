@@ -1,10 +1,12 @@
 -- Lists of sets as flat lists of words, for any number n of words a set; then of `setsIn`, which is all that crates above need. Assumes nothing.
 use mathlib.Core.List.{List, [], _∷_, _++_, append-assoc, append-nil, List·Memᴰ as In, List·Memᴰ·head as here, List·Memᴰ·tail as there}
 use mathlib.Core.Path.{_≡_, refl, sym, ap, ap₂, _∙_}
-use Prim.Native.Nat.{ℕ, zero, suc, _+_, _-_, _*_, _/_, _%_, _^_, _≤_, _<_}
+use mathlib.Core.Bool.{Bool, true, false}
+use Prim.Native.Nat.{ℕ, zero, suc, _+_, _-_, _*_, _/_, _%_, _^_, _≤_, _<_, min}
 use native.Mathlib.Nat.{div-lt-iff-lt-mul, suc-mul, suc-add, zero-add, zero-mul, mul-div-cancel, div-self, le-div-iff-mul-le, mul-add-div-right, add-sub-of-le, le-refl, le-of-lt, le-of-suc-le-suc, mul-le-mul-right}
 use native.Mathlib.Omega.{arith}
-use lib.Dec.{lit<}
+use lib.Dec.{leb, lit<}
+use borrow.Author.Tests.{leb-true, leb-false}
 use lib.ListN.{length, take, drop, getD, set, length-append, length-drop, take-append-drop, replicate, length-replicate, replicate-append-replicate}
 use lib.Pow.{pow-add}
 use lib.Seq.{length-take-le, take-append-le, drop-append-le, drop-drop, set-split, take-all, sets, sets-eq, length-sets, take-at, drop-at}
@@ -146,6 +148,16 @@ spread-one n vs h e = append-nil (spread n (valueOf vs)) ∙ ap (λ (m : ℕ). s
 pub sets-length : (ws : List ℕ) → length (setsIn ws) ≡ length ws / words
 unfolding setsIn
 sets-length = of-length words (lit< tt)
+
+-- the first n of a list, where n may be more than it has
+pub take-min : (n : ℕ) (l : List ℕ) → take (min n (length l)) l ≡ take n l
+take-min n l = go (leb n (length l)) refl
+  where
+    go : (t : Bool) → leb n (length l) ≡ t → take (min n (length l)) l ≡ take n l
+    go true e = ap (λ (m : ℕ). take m l) {x = min n (length l)} {y = n} (omega (arith, leb-true n (length l) e))
+    go false e =
+        let more : length l ≤ n = omega (arith, leb-false n (length l) e) in
+        take-all (min n (length l)) l (omega arith) ∙ sym (take-all n l more)
 
 -- lists of as many words have as many sets
 pub sets-long : (ws vs : List ℕ) → length ws ≡ length vs → length (setsIn ws) ≡ length (setsIn vs)

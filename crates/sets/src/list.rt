@@ -1,6 +1,6 @@
 // A list of sets as a flat list of words, WORDS of them for each set, low one first. Words at the end that are too few for a set are ignored.
 ghost use mathlib.Core.Path.{_≡_};
-ghost use Prim.Native.Nat.{_<_};
+ghost use Prim.Native.Nat.{_<_, min};
 ghost use lib.ListN.{length, getD};
 ghost use Rattle.sets.specs.Lists.{setsIn, Put};
 
@@ -12,6 +12,14 @@ pub fn sets_in(list: &[u64]) -> usize
     ensures { λ r. ⌜ r ≡ length (setsIn (now (list .entry))) ⌝ }
 {
     list.len() / WORDS
+}
+
+// How many of the first count sets a list has.
+pub fn sets_up_to(list: &[u64], count: usize) -> usize
+    ensures { λ r. ⌜ r ≡ min count (length (setsIn (now (list .entry)))) ⌝ }
+{
+    let all = sets_in(list);
+    if count < all { count } else { all }
 }
 
 // The word of the set at place i.

@@ -63,7 +63,8 @@ fn write_sidecar(sets: &[u64], n: usize, out: &mut [u8]) -> Answer
 
 // The sidecar: one field with the reduced basis.
 pub fn sidecar(atoms: u64, bonds: &[u8], out: &mut [u8]) -> Answer
-    ensures { λ r. ⌜ outcomeOf (r .number) (r .count) (now (out .exit)) ≡ written (refusal (table atoms (now (bonds .entry)))) (sidecarOf (table atoms (now (bonds .entry)))) (now (out .entry)) ⌝ }
+    ensures answer { λ r. ⌜ outcomeOf (r .number) (r .count) (now (out .exit)) ≡ written (refusal (table atoms (now (bonds .entry)))) (sidecarOf (table atoms (now (bonds .entry)))) (now (out .entry)) ⌝ }
+    ensures read { λ r. ⌜ now (bonds .exit) ≡ now (bonds .entry) ⌝ }
 {
     let found = reduced::reduce(atoms, bonds);
     if found.number > 0 {

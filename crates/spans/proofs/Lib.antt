@@ -3,6 +3,7 @@
 --     Choice         sums by choices, the test of a sum, independence in three readings
 --     Exchange       an independent list of sums is no longer than what it sums
 --     Taking         what is taken of a list: a part of it, independent, with the same span; one more set as a loop goes
+--     InOrder        what is taken of a list in order, read set by set, and that there is one such list
 --     Counts         how many numbers are at most t, or t, and the total of a list
 --     Lightest       what is taken of a rising list weighs least, and the weights are the same in all that do
 --     Invariant      the same weights are taken of lists that a map carries to each other
@@ -13,6 +14,7 @@ pub mod Spans
 pub mod Choice
 pub mod Exchange
 pub mod Taking
+pub mod InOrder
 pub mod Counts
 pub mod Lightest
 pub mod Invariant

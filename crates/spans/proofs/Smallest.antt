@@ -32,15 +32,15 @@ pub before-rising : {xs : List ℕ} → Sorted before xs → Rising size xs
 before-rising s = weak-rising (sorted-weak before-order s)
 
 -- bs is a basis made of sets of xs
-pub record BasisOf (xs bs : List ℕ) : Type 0 where
+pub record SpanBasis (xs bs : List ℕ) : Type 0 where
   pub members : (b : ℕ) → In b bs → In b xs
   pub none-of-others : NoneOfOthers bs
   pub span-all : (x : ℕ) → In x xs → SumOf bs x
 
 -- and no other has a smaller total of sizes
 pub record SmallestOf (xs bs : List ℕ) : Type 0 where
-  pub basis : BasisOf xs bs
-  pub least : (cs : List ℕ) → BasisOf xs cs → total (map size bs) ≤ total (map size cs)
+  pub basis : SpanBasis xs bs
+  pub least : (cs : List ℕ) → SpanBasis xs cs → total (map size bs) ≤ total (map size cs)
 
 -- no set taken is a sum of others
 pub taken-none-of-others : (xs : List ℕ) → NoneOfOthers (taking [] xs)
@@ -51,20 +51,20 @@ pub taken-span-all : (xs : List ℕ) (x : ℕ) → In x xs → SumOf (taking [] 
 taken-span-all xs x i = span→sum (taking-holds xs x i)
 
 -- what is taken is a basis
-pub taken-basis : (xs : List ℕ) → BasisOf xs (taking [] xs)
+pub taken-basis : (xs : List ℕ) → SpanBasis xs (taking [] xs)
 taken-basis xs = record { members = taking-in xs; none-of-others = taken-none-of-others xs; span-all = taken-span-all xs }
 
 -- it is a basis in the sense of spans
-as-basis : {xs bs : List ℕ} → BasisOf xs bs → Basis size xs bs
+as-basis : {xs bs : List ℕ} → SpanBasis xs bs → Basis size xs bs
 as-basis {xs} {bs} b = basis-of size xs bs (others-iff-indep bs .0 (b .none-of-others)) (b .members) (λ x i. sum→span (b .span-all x i))
 
 -- every basis has as many sets
-pub taken-length : (xs bs : List ℕ) → BasisOf xs bs → length bs ≡ length (taking [] xs)
+pub taken-length : (xs bs : List ℕ) → SpanBasis xs bs → length bs ≡ length (taking [] xs)
 taken-length xs bs b = basis-length size xs bs (as-basis b)
 
 module _ (xs : List ℕ) (rising : Rising size xs) where
   -- no basis has a smaller total of sizes
-  pub taken-least-total : (bs : List ℕ) → BasisOf xs bs → total (map size (taking [] xs)) ≤ total (map size bs)
+  pub taken-least-total : (bs : List ℕ) → SpanBasis xs bs → total (map size (taking [] xs)) ≤ total (map size bs)
   taken-least-total bs b = taking-least size xs rising bs (as-basis b)
 
   -- every smallest basis has as many sets of each size

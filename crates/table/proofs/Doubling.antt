@@ -13,12 +13,13 @@ use Rattle.sets.specs.Bond.{bits, noBonds}
 use Rattle.sets.specs.declared.bond.BondSet.{BondSet}
 use Rattle.sets.proofs.Members.{common, meet-of}
 use Rattle.definitions.specs.Search.{setOf}
-use Rattle.definitions.specs.Table.{Table, tail, head, maxAtoms, meets?, selfBond?, alike?, seenBefore?}
+use Rattle.definitions.specs.Table.{Table, tail, head, meets?, selfBond?, alike?, seenBefore?}
+use Rattle.definitions.specs.Sentences.{Alike}
 use Rattle.definitions.proofs.Tests.{same-test, and-both, both-and, tells-eqb, tells-or, true-of, some-at, some-of}
 use Rattle.definitions.proofs.Lists.{has-setOf}
-use Rattle.definitions.proofs.Refusals.{Alike, tells-alike}
+use Rattle.definitions.proofs.Refusals.{tells-alike}
 use Rattle.table.specs.Ends.{bondsAlone}
-use Rattle.table.proofs.Meeting.{Rowed}
+use Rattle.table.proofs.Meeting.{EndAt, Rowed}
 
 -- the row of atom a by the bonds below k
 abbrev rowBelow : Table → ℕ → ℕ → ℕ
@@ -69,6 +70,6 @@ shared-seen M k no-self = same-test _ _ to from
 
 -- r says whether the rows of a and b, the atoms of bond k, share a bond
 pub rowed-seen : {bs : List ℕ} {rows : List BondSet} {k a b : ℕ} {r : Bool} → Rowed bs rows k → ((j : ℕ) → j < length bs / 2 → selfBond? (bondsAlone bs) j ≡ false)
-    → k < length bs / 2 → (a ≡ tail (bondsAlone bs) k) × (a < maxAtoms) → (b ≡ head (bondsAlone bs) k) × (b < maxAtoms)
+    → k < length bs / 2 → EndAt a (tail (bondsAlone bs) k) → EndAt b (head (bondsAlone bs) k)
     → r ≡ meet (bits (getD rows a noBonds)) (bits (getD rows b noBonds)) → r ≡ seenBefore? (bondsAlone bs) k
 rowed-seen {bs} {rows} {k} {a} {b} t no-self l ea eb er = er ∙ rw (t .row a (ea .1), t .row b (eb .1), ea .0, eb .0) (shared-seen (bondsAlone bs) k (no-self k l))

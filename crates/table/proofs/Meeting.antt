@@ -20,7 +20,8 @@ use Rattle.definitions.specs.Table.{Table, tail, head, meets?, maxAtoms}
 use Rattle.definitions.proofs.Tests.{by, eqb-self}
 use Rattle.definitions.proofs.Lists.{setOf-skip, setOf-take}
 use Rattle.definitions.proofs.Refusals.{EvenBytes, FewBonds, AllInside, Valid}
-use Rattle.table.specs.Ends.{bondsAlone, Fitting}
+use Rattle.table.specs.Ends.{bondsAlone, Fitting, EndsOf}
+use Rattle.table.specs.declared.ends.Ends.{Ends}
 
 -- a table whose bonds are few and name atoms below the count fits
 pub inside-fitting : {M : Table} → EvenBytes M → M .atoms ≤ maxAtoms → FewBonds M → AllInside M → Fitting (M .bytes)
@@ -36,6 +37,17 @@ inside-fitting {M} even few-atoms few-bonds inside = record { few = few-bonds; e
 -- so has a valid one
 pub valid-fitting : {M : Table} → Valid M → Fitting (M .bytes)
 valid-fitting v = inside-fitting (v .even) (v .few-atoms) (v .few-bonds) (v .inside)
+
+-- an atom at an end of a bond of it, and below the limit
+abbrev pub EndAt : ℕ → ℕ → Type 0
+EndAt e a = (e ≡ a) × (e < maxAtoms)
+
+-- the ends of a bond are so
+pub ends-inside : {bs : List ℕ} {k : ℕ} {e : Ends} → Fitting bs → k < length bs / 2 → EndsOf bs k e
+    → EndAt (e .tail) (tail (bondsAlone bs) k) × EndAt (e .head) (head (bondsAlone bs) k)
+ends-inside {k = k} f l is =
+    let (t, h) = is .bond l in
+    ((t, omega (arith, t, f .ends (2 * k) (omega arith))), (h, omega (arith, h, f .ends (2 * k + 1) (omega arith))))
 
 -- ---- the rows in an array, by the bonds below k
 
@@ -74,7 +86,7 @@ added rows k i x below inside e a =
 
 -- bond k is added to the row of i, as x, and then to that of j, as y
 module _ {bs : List ℕ} {rows : List BondSet} {k : ℕ} (t : Rowed bs rows k) (f : Fitting bs) (l : k < length bs / 2)
-    {i j : ℕ} {x y : BondSet} (ei : (i ≡ tail (bondsAlone bs) k) × (i < maxAtoms)) (ej : (j ≡ head (bondsAlone bs) k) × (j < maxAtoms))
+    {i j : ℕ} {x y : BondSet} (ei : EndAt i (tail (bondsAlone bs) k)) (ej : EndAt j (head (bondsAlone bs) k))
     (ex : bits x ≡ put room (bits (getD rows i noBonds)) k) (ey : bits y ≡ put room (bits (getD (set rows i x) j noBonds)) k) where
   -- a row changes where it is that of one of the two
   both : (a : ℕ) → bits (getD (set (set rows i x) j y) a noBonds) ≡ and-bond k (bits (getD rows a noBonds)) (eqb i a || eqb j a)

@@ -5,8 +5,9 @@ use mathlib.Core.Bool.{Bool, true, false}
 use Prim.Native.Nat.{ℕ, suc, _<_}
 use native.Mathlib.Omega.{arith}
 use lib.ListN.{length}
+use Rattle.definitions.specs.Search.{Each}
 use Rattle.definitions.specs.Table.{Table, bonds, selfBond?, tableTests, refusal}
-use Rattle.definitions.proofs.Tests.{Each, each-more, none-at}
+use Rattle.definitions.proofs.Tests.{each-more, none-at}
 use Rattle.definitions.proofs.Refusals.{EvenBytes, GoodCount, FewBonds, testAt, first-at, first-none, tried-exactly}
 use Rattle.table.specs.Ends.{Fitting}
 use Rattle.table.proofs.Meeting.{inside-fitting}

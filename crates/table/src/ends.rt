@@ -1,9 +1,5 @@
 // The two atoms of a bond.
-ghost use mathlib.Core.Path.{_≡_};
-ghost use Prim.Native.Nat.{_/_, _<_};
-ghost use lib.ListN.{length};
-ghost use Rattle.definitions.specs.Table as spec;
-ghost use Rattle.table.specs.Ends.{bondsAlone, Fitting};
+ghost use Rattle.table.specs.Ends.{EndsOf};
 
 // The atom that is written first, and the other.
 pub struct Ends {
@@ -11,14 +7,15 @@ pub struct Ends {
     pub head: usize,
 }
 
-// The atoms of bond k.
+// The atoms of bond k, and atom 0 twice where there is no such bond.
 pub fn ends_of(bonds: &[u8], k: usize) -> Ends
-    requires { ⌜ Fitting (now bonds) × (k < length (now bonds) / 2) ⌝ }
-    ensures tail { λ r. ⌜ (r .tail ≡ spec.tail (bondsAlone (now (bonds .entry))) k) × (r .tail < spec.maxAtoms) ⌝ }
-    ensures head { λ r. ⌜ (r .head ≡ spec.head (bondsAlone (now (bonds .entry))) k) × (r .head < spec.maxAtoms) ⌝ }
+    ensures { λ r. ⌜ EndsOf (now (bonds .entry)) k r ⌝ }
 {
-    Ends {
-        tail: bonds[2 * k] as usize,
-        head: bonds[2 * k + 1] as usize,
+    if k < bonds.len() / 2 {
+        return Ends {
+            tail: bonds[2 * k] as usize,
+            head: bonds[2 * k + 1] as usize,
+        };
     }
+    Ends { tail: 0, head: 0 }
 }

@@ -1,4 +1,4 @@
-// The refusals 1 to 6 of a table. A test is through with all bonds before the next test begins.
+// The refusals 1 to 6 of a table. A test is through with all bonds before the next number is given.
 use super::ends::ends_of;
 use answers::MAX_ATOMS;
 use answers::MAX_BONDS;
@@ -19,42 +19,35 @@ fn bad_end(atoms: u64, bonds: &[u8], k: usize) -> bool
     (atoms <= bonds[2 * k] as u64) | (atoms <= bonds[2 * k + 1] as u64)
 }
 
-// Has some bond such an end?
-fn any_bad_end(atoms: u64, bonds: &[u8]) -> bool
-    ensures { λ r. ⌜ r ≡ some? (length (now (bonds .entry)) / 2) (spec.badEnd? (spec.table atoms (now (bonds .entry)))) ⌝ }
-{
-    let mut k: usize = 0;
-    while k < bonds.len() / 2 {
-        if bad_end(atoms, bonds, k) {
-            return true;
-        }
-        k += 1;
-    }
-    false
-}
-
 // Are the two ends of bond k one atom?
 fn self_bond(bonds: &[u8], k: usize) -> bool
-    requires { ⌜ Fitting (now bonds) × (k < length (now bonds) / 2) ⌝ }
+    requires { ⌜ k < length (now bonds) / 2 ⌝ }
     ensures { λ r. ⌜ r ≡ spec.selfBond? (bondsAlone (now (bonds .entry))) k ⌝ }
 {
     let ends = ends_of(bonds, k);
     ends.tail == ends.head
 }
 
-// Are the two ends of some bond one atom?
-fn any_self_bond(bonds: &[u8]) -> bool
-    requires { ⌜ Fitting (now bonds) ⌝ }
-    ensures { λ r. ⌜ r ≡ some? (length (now (bonds .entry)) / 2) (spec.selfBond? (bondsAlone (now (bonds .entry)))) ⌝ }
+// What may be wrong with the ends of bonds: some bond has one that is the atom count or higher; the two of some bond are one atom.
+struct WrongEnds {
+    outside: bool,
+    same: bool,
+}
+
+// Both are told in one pass over all bonds.
+fn wrong_ends(atoms: u64, bonds: &[u8]) -> WrongEnds
+    ensures outside { λ r. ⌜ r .outside ≡ some? (length (now (bonds .entry)) / 2) (spec.badEnd? (spec.table atoms (now (bonds .entry)))) ⌝ }
+    ensures same { λ r. ⌜ r .same ≡ some? (length (now (bonds .entry)) / 2) (spec.selfBond? (bondsAlone (now (bonds .entry)))) ⌝ }
 {
+    let mut outside = false;
+    let mut same = false;
     let mut k: usize = 0;
     while k < bonds.len() / 2 {
-        if self_bond(bonds, k) {
-            return true;
-        }
+        outside = outside | bad_end(atoms, bonds, k);
+        same = same | self_bond(bonds, k);
         k += 1;
     }
-    false
+    WrongEnds { outside, same }
 }
 
 // Is some pair of atoms bonded twice? A row is the set of the bonds so far that meet an atom; a bond whose two atoms are bonded already
@@ -95,10 +88,11 @@ pub fn refusal_of(atoms: u64, bonds: &[u8]) -> u8
     if bonds.len() / 2 > MAX_BONDS {
         return answers::BONDS;
     }
-    if any_bad_end(atoms, bonds) {
+    let ends = wrong_ends(atoms, bonds);
+    if ends.outside {
         return answers::END;
     }
-    if any_self_bond(bonds) {
+    if ends.same {
         return answers::SELF;
     }
     if any_twice(bonds) {

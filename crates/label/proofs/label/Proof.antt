@@ -1,4 +1,5 @@
 -- The refusal is handed on. What is counted of an accepted table is written as its label. Assumes nothing.
+use mathlib.Core.Path.{refl}
 use native.Mathlib.Omega.{arith}
 use Rattle.label.proofs.Labelling.{cleared, sizes-none, label-refused, counted, label-written}
 use borrow.Author.Needs.{needs}
@@ -12,7 +13,7 @@ count-rings-requires : tie.Need-count-rings-requires
 count-rings-requires c κs = (cleared, cleared, omega arith)
 
 returns : tie.Need-returns
-returns c = label-refused (c .before .before .before .count-rings .ensures) _ (c .if1 .taken)
+returns c = (label-refused (c .before .before .before .count-rings .ensures) _ (c .if1 .taken), refl)
 
 frerejacque-requires : tie.Need-frerejacque-requires
 frerejacque-requires c κs = search needs
@@ -34,7 +35,7 @@ returns-2 c =
     let told = c .before .before in
     let number = told .before .before .before .before .before in
     let counts = number .before .before .before .before in
-    label-written (counts .count-rings .ensures) (omega arith) _ (number .frerejacque .ensures) (told .write-label .ensures)
+    (label-written (counts .count-rings .ensures) (omega arith) _ (number .frerejacque .ensures) (told .write-label .ensures), refl)
 
 pub label-spec : {M : Type 1} → statement M
 label-spec =

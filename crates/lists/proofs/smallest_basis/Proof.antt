@@ -1,4 +1,5 @@
 -- A refusal is handed on; else what is taken of the rings found of what is worked out is the smallest basis. Assumes nothing.
+use mathlib.Core.Path.{refl}
 use denote.Ref.{now}
 use Rattle.answers.proofs.Answers.{sets-refused}
 use Rattle.perception.proofs.Perceiving.{perceived, perceived-spanned}
@@ -11,7 +12,7 @@ perceive-requires : tie.Need-perceive-requires
 perceive-requires c κs = search needs
 
 returns : tie.Need-returns
-returns c = sets-refused _ _ (c .before .before .perceive .ensures .number) (c .if1 .taken)
+returns c = (sets-refused _ _ (c .before .before .perceive .ensures .number) (c .if1 .taken), refl)
 
 smallest-from-requires : tie.Need-smallest-from-requires
 smallest-from-requires c κs =
@@ -26,7 +27,7 @@ same-length c = search needs
 returns-2 : tie.Need-returns-2
 returns-2 c =
     let accepted = c .before .before .before .before .before .before .before in
-    perceived-smallest (accepted .before .before .perceive .ensures) (accepted .if1 .left) (now (accepted .before .before .before .before .before .args .out)) (c .before .before .smallest-from .ensures)
+    (perceived-smallest (accepted .before .before .perceive .ensures) (accepted .if1 .left) (now (accepted .before .before .before .before .before .args .out)) (c .before .before .smallest-from .ensures), refl)
 
 pub smallest-basis-spec : {M : Type 1} → statement M
 smallest-basis-spec =

@@ -1,10 +1,11 @@
 -- The rings in order are written. Assumes nothing.
+use Rattle.lists.proofs.Laws.{listable-held}
 use borrow.Author.Needs.{needs}
 use Rattle.lists.proofs.write_all.Statement.{statement}
 use Rattle.lists.proofs.write_all.Tie as tie
 
 list-rings-requires : tie.Need-list-rings-requires
-list-rings-requires c κs = search needs
+list-rings-requires c κs = let given = c .before .before .before .before .before .pre in (listable-held _ (given .0), listable-held _ (given .1))
 
 write-sets-requires : tie.Need-write-sets-requires
 write-sets-requires c κs = search needs

@@ -3,13 +3,13 @@ use mathlib.Core.Path.{ap}
 use lib.ListN.{length}
 use Rattle.sets.proofs.Lists.{sets-blank}
 use Rattle.definitions.specs.Table.{maxBonds}
-use Rattle.lists.proofs.Laws.{ordered-choosable, ordered-chosen}
+use Rattle.lists.proofs.Laws.{listable-held, ordered-choosable, ordered-chosen}
 use borrow.Author.Needs.{needs}
 use Rattle.lists.proofs.write_smallest.Statement.{statement}
 use Rattle.lists.proofs.write_smallest.Tie as tie
 
 list-rings-requires : tie.Need-list-rings-requires
-list-rings-requires c κs = search needs
+list-rings-requires c κs = let given = c .before .before .before .before .before .pre in (listable-held _ (given .2), listable-held _ (given .3))
 
 slice-aggregate-smallest-of : tie.Need-slice-aggregate-smallest-of
 slice-aggregate-smallest-of c = search needs

@@ -1,5 +1,5 @@
 -- A refusal is handed on; else the sets that are written are the reduced basis. Assumes nothing.
-use mathlib.Core.Path.{ap}
+use mathlib.Core.Path.{refl, ap}
 use mathlib.Core.List.{List}
 use Prim.Native.Nat.{ℕ}
 use native.Mathlib.Omega.{arith}
@@ -14,7 +14,7 @@ reduce-requires : tie.Need-reduce-requires
 reduce-requires c κs = search needs
 
 returns : tie.Need-returns
-returns c = is-refused _ _ (c .before .reduce .ensures .number) (omega arith)
+returns c = (is-refused _ _ (c .before .reduce .ensures .number) (omega arith), refl)
 
 write-sidecar-requires : tie.Need-write-sidecar-requires
 write-sidecar-requires c κs = omega (arith, reduces-room (c .before .before .before .before .before .reduce .ensures) (omega arith))
@@ -25,9 +25,11 @@ same-length c = search needs
 returns-2 : tie.Need-returns-2
 unfolding sidecarOf
 returns-2 c =
-    let found = c .before .before .before .before .before .before .before .before .reduce .ensures in
-    is-accepted _ _ (found .number) (omega arith) (ap (λ (l : List ℕ). field sidecarTag (bytesOfAll setBytes l)) (reduces-sets found (omega arith)))
-    (c .before .before .write-sidecar .ensures)
+    let found = c .before .before .before .before .before .before .before .before .reduce .ensures in (
+      is-accepted _ _ (found .number) (omega arith) (ap (λ (l : List ℕ). field sidecarTag (bytesOfAll setBytes l)) (reduces-sets found (omega arith)))
+          (c .before .before .write-sidecar .ensures),
+      refl,
+    )
 
 pub sidecar-spec : {M : Type 1} → statement M
 sidecar-spec =

@@ -8,34 +8,38 @@ use borrow.Author.Needs.{needs}
 use Rattle.sets.specs.Bits.{IsNext}
 use Rattle.sets.specs.Ring.{bits, room}
 use Rattle.sets.specs.Lists.{setsIn}
-use Rattle.sets.proofs.Lists.{sets-whole}
+use Rattle.sets.proofs.Lists.{take-min, sets-whole}
 use Rattle.definitions.specs.Table.{maxBonds}
 use Rattle.basis.proofs.Numbering.{Divided, divided-none, left-below, divided-room, divided-more, divided-all}
 use Rattle.basis.proofs.assembly.assemblies_of.Statement.{statement}
 use Rattle.basis.proofs.assembly.assemblies_of.Tie as tie
 
 abbrev Inv-loop : tie.InvT-loop
-Inv-loop rings count places members₀ assemblies₀ left₀ first₀ members assemblies left first =
-    Divided (take count (setsIn rings)) members assemblies (bits left) × IsNext room (bits left) 0 first
+Inv-loop rings count places known members₀ assemblies₀ left₀ first₀ members assemblies left first =
+    Divided (take known (setsIn rings)) members assemblies (bits left) × IsNext room (bits left) 0 first
 
 abbrev μ-loop : tie.MeasureT-loop
-μ-loop rings count places members₀ assemblies₀ left₀ first₀ members assemblies left first = maxBonds - assemblies
+μ-loop rings count places known members₀ assemblies₀ left₀ first₀ members assemblies left first = maxBonds - assemblies
 
 -- the list has a place for each bond
 whole : (c : tie.After-sets-in Inv-loop μ-loop) → length (setsIn (c .before .before .args .rings .now)) ≡ maxBonds
 whole c = sets-whole maxBonds (c .before .before .args .rings .now) (search needs)
 
--- so there are as many rings as are counted
-counted : (c : tie.After-sets-in Inv-loop μ-loop) → length (take (c .before .before .args .count) (setsIn (c .before .before .args .rings .now))) ≡ c .before .before .args .count
-counted c = let start = c .before .before in length-take-le (start .args .count) (setsIn (start .args .rings .now)) (omega (arith, start .pre, whole c))
+-- so no more rings are known than it has places
+known : (c : tie.After-sets-up-to Inv-loop μ-loop) → c .sets-up-to .result ≤ maxBonds
+known c = omega (arith, c .sets-up-to .ensures, whole (c .before .before))
 
--- and sets have room for them
-few : (c : tie.After-sets-in Inv-loop μ-loop) → length (take (c .before .before .args .count) (setsIn (c .before .before .args .rings .now))) ≤ room
-few c = omega (arith, counted c, c .before .before .pre)
+-- and these are all that are counted
+counted : (c : tie.After-sets-up-to Inv-loop μ-loop) → length (take (c .sets-up-to .result) (setsIn (c .before .before .before .before .args .rings .now))) ≡ c .sets-up-to .result
+counted c = length-take-le (c .sets-up-to .result) (setsIn (c .before .before .before .before .args .rings .now)) (omega (arith, known c, whole (c .before .before)))
+
+-- sets have room for them
+few : (c : tie.After-sets-up-to Inv-loop μ-loop) → length (take (c .sets-up-to .result) (setsIn (c .before .before .before .before .args .rings .now))) ≤ room
+few c = omega (arith, counted c, known c)
 
 -- the first ring left is one
 low : (c : tie.In-loop Inv-loop μ-loop) → c .before .loop .first < room
-low c = let start = c .before .before .before .before in omega (arith, start .sets-in .ensures, whole start)
+low c = let start = c .before .before .before .before .before .before in omega (arith, start .sets-in .ensures, whole start)
 
 -- there is a place for the next assembly
 free : (c : tie.In-loop Inv-loop μ-loop) → c .before .loop .assemblies < room
@@ -45,6 +49,9 @@ free c =
 
 sets-in-requires : tie.Need-sets-in-requires Inv-loop μ-loop
 sets-in-requires c κs = search needs
+
+sets-up-to-requires : tie.Need-sets-up-to-requires Inv-loop μ-loop
+sets-up-to-requires c κs = search needs
 
 below-requires : tie.Need-below-requires Inv-loop μ-loop
 below-requires c κs = search needs
@@ -61,7 +68,7 @@ cluster-of-requires : tie.Need-cluster-of-requires Inv-loop μ-loop
 cluster-of-requires c κs =
     let at = c .before in
     let start = at .before .before .before in
-    (start .before .before .pre, at .loop .inv .1 .member (low c), λ i e. omega (arith, left-below (at .loop .inv .0) i e, counted start))
+    (known start, at .loop .inv .1 .member (low c), λ i e. omega (arith, left-below (at .loop .inv .0) i e, counted start))
 
 mul-members : tie.Need-mul-members Inv-loop μ-loop
 mul-members c = omega (arith, free (c .before .before))
@@ -89,7 +96,9 @@ returns : tie.Need-returns Inv-loop μ-loop
 returns c =
     let at = c .before in
     let start = at .before .before .before in
-    divided-all (at .loop .inv .0) (few start) (at .loop .inv .1) (omega (arith, start .sets-in .ensures, whole start))
+    let places = start .before .before .sets-in .ensures in
+    rw (start .sets-up-to .ensures, take-min) at
+    (divided-all (at .loop .inv .0) (few start) (at .loop .inv .1) (omega (arith, places, whole (start .before .before))))
 
 pub assemblies-of-spec : {M : Type 1} → statement M
 assemblies-of-spec =
@@ -98,6 +107,7 @@ assemblies-of-spec =
     Inv-loop
     μ-loop
     sets-in-requires
+    sets-up-to-requires
     below-requires
     next-requires
     loop-holds

@@ -7,19 +7,19 @@ use lib.ListN.{length}
 use Rattle.sets.specs.Bits.{has}
 use Rattle.basis.specs.Held.{AssembliesOf}
 use Rattle.basis.proofs.Holding.{members-at}
-use Rattle.basis.proofs.Writing.{Told, told-none, told-more, told-all}
+use Rattle.basis.proofs.Writing.{Assigned, assigned-none, assigned-more, assigned-all}
 use borrow.Author.Needs.{needs}
 use Rattle.basis.proofs.assembly.write_assemblies.Statement.{statement}
 use Rattle.basis.proofs.assembly.write_assemblies.Tie as tie
 
 abbrev Inv-loop : tie.InvT-loop
-Inv-loop out₀ found a₀ out a = (length out ≡ length out₀) × ((rs : List ℕ) → AssembliesOf rs found → Told rs a out₀ out)
+Inv-loop out₀ found a₀ out a = (length out ≡ length out₀) × ((rs : List ℕ) → AssembliesOf rs found → Assigned rs a out₀ out)
 
 abbrev μ-loop : tie.MeasureT-loop
 μ-loop out₀ found a₀ out a = found .count - a
 
 loop-holds : tie.Need-loop-holds Inv-loop μ-loop
-loop-holds c = (refl, λ rs o. told-none rs _)
+loop-holds c = (refl, λ rs o. assigned-none rs _)
 
 mul-number-members : tie.Need-mul-number-members Inv-loop μ-loop
 mul-number-members c = search needs
@@ -46,13 +46,13 @@ loop-again : tie.Need-loop-again Inv-loop μ-loop
 loop-again c =
     let at = c .before .before .before .before .before .before in
     let told = c .before .before .number-members .ensures in
-    (told .long ∙ at .loop .inv .0, λ rs o. told-more o (omega arith) (at .loop .inv .1 rs o) told)
+    (told .long ∙ at .loop .inv .0, λ rs o. assigned-more o (omega arith) (at .loop .inv .1 rs o) told)
 
 same-length : tie.Need-same-length Inv-loop μ-loop
 same-length c = c .before .loop .inv .0
 
 returns : tie.Need-returns Inv-loop μ-loop
-returns c rs room o = told-all o room (omega arith) (c .before .loop .inv .1 rs o)
+returns c rs room o = assigned-all o room (omega arith) (c .before .loop .inv .1 rs o)
 
 pub write-assemblies-spec : {M : Type 1} → statement M
 write-assemblies-spec =

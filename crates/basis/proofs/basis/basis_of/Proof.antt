@@ -9,9 +9,10 @@ use denote.Ref.{now}
 use Rattle.sets.specs.Bond.{bits}
 use Rattle.sets.specs.Lists.{setsIn, words}
 use Rattle.sets.proofs.Lists.{sets-blank}
-use Rattle.definitions.specs.Table.{Table, table, maxAtoms, maxBonds}
+use Rattle.definitions.specs.Table.{Table, table, tail, head, maxAtoms, maxBonds}
 use Rattle.definitions.proofs.Refusals.{Valid, accepted}
-use Rattle.table.proofs.Meeting.{valid-fitting}
+use Rattle.table.proofs.Meeting.{valid-fitting, EndAt, ends-inside}
+use Rattle.basis.proofs.Holding.{basis-refused, basis-accepted}
 use Rattle.basis.proofs.Leading.{climbed-low}
 use Rattle.basis.proofs.Trying.{Tried, Reached, tried-none, climbs-reached, tried-settled, tried-turn, tried-all}
 use borrow.Author.Needs.{needs}
@@ -19,18 +20,18 @@ use Rattle.basis.proofs.basis.basis_of.Statement.{statement}
 use Rattle.basis.proofs.basis.basis_of.Tie as tie
 
 abbrev Inv-loop : tie.InvT-loop
-Inv-loop atoms bonds lower₀ ways₀ rings₀ count₀ k₀ lower ways rings count k = (length rings ≡ maxBonds * words) × Tried (table atoms bonds) lower (setsIn ways) (setsIn rings) count k
+Inv-loop atoms bonds number lower₀ ways₀ rings₀ count₀ k₀ lower ways rings count k = (length rings ≡ maxBonds * words) × Tried (table atoms bonds) lower (setsIn ways) (setsIn rings) count k
 
 abbrev μ-loop : tie.MeasureT-loop
-μ-loop atoms bonds lower₀ ways₀ rings₀ count₀ k₀ lower ways rings count k = length bonds / 2 - k
+μ-loop atoms bonds number lower₀ ways₀ rings₀ count₀ k₀ lower ways rings count k = length bonds / 2 - k
 
 -- an accepted table is valid
-valid : (c : tie.Start Inv-loop μ-loop) → Valid (table (c .args .atoms) (now (c .args .bonds)))
-valid c = accepted (table (c .args .atoms) (now (c .args .bonds))) .0 (c .pre)
+valid : (c : tie.Else1 Inv-loop μ-loop) → let start = c .before .before .before in Valid (table (start .args .atoms) (now (start .args .bonds)))
+valid c = let start = c .before .before .before in accepted (table (start .args .atoms) (now (start .args .bonds))) .0 (omega (arith, c .before .refusal-of .ensures))
 
 -- the table that is read
 abbrev read : tie.In-loop Inv-loop μ-loop → Table
-read c = let start = c .before .before .before .before in table (start .args .atoms) (now (start .args .bonds))
+read c = let start = c .before .before .before .before .before .before in table (start .args .atoms) (now (start .args .bonds))
 
 -- the bonds below k are tried
 abbrev tried : (c : tie.In-loop Inv-loop μ-loop) → Tried (read c) (c .before .loop .lower) (setsIn (c .before .loop .ways)) (setsIn (c .before .loop .rings)) (c .before .loop .count) (c .before .loop .k)
@@ -38,7 +39,7 @@ tried c = c .before .loop .inv .1
 
 -- a turn tries one of the bonds, of which there are no more than places
 few : (c : tie.In-loop Inv-loop μ-loop) → c .before .loop .k < maxBonds
-few c = omega (arith, valid (c .before .before .before .before) .few-bonds)
+few c = omega (arith, valid (c .before .before .before) .few-bonds)
 
 -- so there is a place for its ring
 free : (c : tie.In-loop Inv-loop μ-loop) → c .before .loop .count < maxBonds
@@ -58,11 +59,16 @@ turn c = c .before .before .before .before
 abbrev climb : tie.After-settle Inv-loop μ-loop → tie.After-climb-from Inv-loop μ-loop
 climb c = c .before .before .before
 
--- the ends of the bond are atoms of it
+-- the ends of the bond
+ends : (c : tie.After-ends-of Inv-loop μ-loop)
+    → EndAt (c .ends-of .result .tail) (tail (read (c .before)) (c .before .before .loop .k)) × EndAt (c .ends-of .result .head) (head (read (c .before)) (c .before .before .loop .k))
+ends c = ends-inside (valid-fitting (valid (c .before .before .before .before))) (c .before .loop-test .taken) (c .ends-of .ensures)
+
+-- they are atoms of the table
 low : (c : tie.After-ends-of Inv-loop μ-loop) → (c .ends-of .result .tail < read (c .before) .atoms) × (c .ends-of .result .head < read (c .before) .atoms)
 low c =
     let at = c .before in
-    omega (arith, c .ends-of .ensures .0 .0, c .ends-of .ensures .1 .0, valid (at .before .before .before .before) .inside (at .before .loop .k) (at .loop-test .taken))
+    omega (arith, ends c .0 .0, ends c .1 .0, valid (at .before .before .before) .inside (at .before .loop .k) (at .loop-test .taken))
 
 -- the first atom is reached from the tail
 one : (c : tie.After-climb-from Inv-loop μ-loop)
@@ -79,28 +85,34 @@ Kept c old lower ways rings =
 first : (c : tie.After-settle Inv-loop μ-loop) → Kept (turn (climb c)) (turn (climb c) .before .loop .lower) (c .settle .last .0) (setsIn (c .settle .last .1 .0)) (setsIn (turn (climb c) .before .loop .rings))
 first c =
     let at = turn (climb c) in
-    tried-settled (tried at) (valid (at .before .before .before .before)) (low (climb c .before .before .before) .0) (one (climb c)) (c .settle .ensures .0) (c .settle .ensures .1)
+    tried-settled (tried at) (valid (at .before .before .before)) (low (climb c .before .before .before) .0) (one (climb c)) (c .settle .ensures .0) (c .settle .ensures .1)
+
+refusal-of-requires : tie.Need-refusal-of-requires Inv-loop μ-loop
+refusal-of-requires c κs = search needs
+
+returns : tie.Need-returns Inv-loop μ-loop
+returns c = basis-refused (c .before .refusal-of .ensures) (c .if1 .taken)
 
 apart-requires : tie.Need-apart-requires Inv-loop μ-loop
-apart-requires c κs = valid (c .before) .few-atoms
+apart-requires c κs = valid c .few-atoms
 
 loop-holds : tie.Need-loop-holds Inv-loop μ-loop
 loop-holds c = (refl, tried-none _ _ (search needs) (c .apart .ensures .0) (c .apart .ensures .1) (sets-blank maxAtoms) (sets-blank maxBonds))
 
 ends-of-requires : tie.Need-ends-of-requires Inv-loop μ-loop
-ends-of-requires c κs = (valid-fitting (valid (c .before .before .before .before)), c .loop-test .taken)
+ends-of-requires c κs = search needs
 
 climb-from-requires : tie.Need-climb-from-requires Inv-loop μ-loop
-climb-from-requires c κs = (tried (c .before .before .before) .falling, c .before .before .ends-of .ensures .0 .1)
+climb-from-requires c κs = (tried (c .before .before .before) .falling, ends (c .before .before) .0 .1)
 
 settle-requires : tie.Need-settle-requires Inv-loop μ-loop
-settle-requires c κs = c .before .before .before .before .before .ends-of .ensures .0 .1
+settle-requires c κs = ends (c .before .before .before .before .before) .0 .1
 
 climb-from-requires-2 : tie.Need-climb-from-requires-2 Inv-loop μ-loop
-climb-from-requires-2 c κs = (first (c .before .before) .0 .falling, climb (c .before .before) .before .before .before .ends-of .ensures .1 .1)
+climb-from-requires-2 c κs = (first (c .before .before) .0 .falling, ends (climb (c .before .before) .before .before .before) .1 .1)
 
 settle-requires-2 : tie.Need-settle-requires-2 Inv-loop μ-loop
-settle-requires-2 c κs = tails (c .before .before) .before .before .before .ends-of .ensures .1 .1
+settle-requires-2 c κs = ends (tails (c .before .before) .before .before .before) .1 .1
 
 sum-requires : tie.Need-sum-requires Inv-loop μ-loop
 sum-requires c κs = search needs
@@ -123,13 +135,13 @@ join-requires : tie.Need-join-requires Inv-loop μ-loop
 join-requires c κs =
     let head = heads (c .before .before .before .before .before) in
     let tail = tails head in
-    let ends = tail .before .before .before .ends-of .ensures in
+    let both = ends (tail .before .before .before) in
     omega (
       arith,
       climbed-low (tail .climb-from .ensures .climbed),
       climbed-low (head .climb-from2 .ensures .climbed),
-      ends .0 .1,
-      ends .1 .1,
+      both .0 .1,
+      both .1 .1,
     )
 
 add-k : tie.Need-add-k Inv-loop μ-loop
@@ -144,23 +156,25 @@ loop-again c =
     let head = heads round in
     let tail = tails head in
     let at = turn tail in
-    let ends = tail .before .before .before in
+    let both = tail .before .before .before in
     let once = first (head .before .before .before) in
-    let other = climbs-reached (once .0) (low ends .1) (head .climb-from2 .ensures) in
+    let other = climbs-reached (once .0) (low both .1) (head .climb-from2 .ensures) in
     let settled = round .before .before .settle2 .ensures in
-    let twice = tried-settled (once .0) (valid (at .before .before .before .before)) (low ends .1) other (settled .0) (settled .1) in
+    let twice = tried-settled (once .0) (valid (at .before .before .before)) (low both .1) other (settled .0) (settled .1) in
     let both =
-    tried-turn (twice .0) (valid (at .before .before .before .before)) (at .loop-test .taken) (ends .ends-of .ensures .0 .0)
-    (ends .ends-of .ensures .1 .0) (twice .1 _ _ _ (low ends .0) (once .1 _ _ _ (low ends .0) (one tail))) (twice .1 _ _ _ (low ends .1) other)
+    tried-turn (twice .0) (valid (at .before .before .before)) (at .loop-test .taken) (ends both .0 .0)
+    (ends both .1 .0) (twice .1 _ _ _ (low both .0) (once .1 _ _ _ (low both .0) (one tail))) (twice .1 _ _ _ (low both .1) other)
     (round .before .sum .ensures) (round .with .ensures)
     in
     ⊎-elim
     (λ w. rw (w .4, w .5, w .6, w .7) (w .2 .ensures .long ∙ at .before .loop .inv .0, rw (w .2 .ensures .sets) (both .0 (w .0 .taken))))
     (λ w. rw (w .4, w .5, w .6, w .7) (at .before .loop .inv .0, rw (w .3 .ensures .0, w .3 .ensures .1) (both .1 (w .0 .left))))
-    (c .if1 .came)
+    (c .if2 .came)
 
-returns : tie.Need-returns Inv-loop μ-loop
-returns c = tried-all (valid (c .before .before .before .before)) (c .before .loop .inv .1) (c .loop-test .left)
+returns-2 : tie.Need-returns-2 Inv-loop μ-loop
+returns-2 c =
+    let start = c .before .before .before in
+    basis-accepted (start .before .refusal-of .ensures) (omega arith) (tried-all (valid start) (c .before .loop .inv .1) (c .loop-test .left))
 
 pub basis-of-spec : {M : Type 1} → statement M
 basis-of-spec =
@@ -168,6 +182,8 @@ basis-of-spec =
     (tie.spec
     Inv-loop
     μ-loop
+    refusal-of-requires
+    returns
     apart-requires
     loop-holds
     ends-of-requires
@@ -184,4 +200,4 @@ basis-of-spec =
     add-k
     loop-less
     loop-again
-    returns)
+    returns-2)

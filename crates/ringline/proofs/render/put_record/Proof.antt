@@ -8,7 +8,7 @@ use Rattle.definitions.specs.Records.{recordTable, recordBytes}
 use Rattle.definitions.specs.Ringline.{recordLine}
 use Rattle.lent.proofs.Appending.{appended-as}
 use Rattle.records.proofs.Records.{whole-fits}
-use Rattle.ringline.proofs.Answering.{Answered, record-answered, line-most}
+use Rattle.ringline.proofs.Answering.{Replied, record-answered, line-most}
 use borrow.Author.Needs.{needs}
 use Rattle.ringline.proofs.render.put_record.Statement.{statement}
 use Rattle.ringline.proofs.render.put_record.Tie as tie
@@ -18,11 +18,11 @@ abbrev start : tie.After-label → tie.Start
 start c = c .before .before .before .before .before .before .before .before
 
 -- the answer makes the record's line
-answer : (c : tie.After-label) → Answered (recordTable (start c .args .rest .now)) (c .label .result .number) (c .label .result .count) (c .label .last .1 .1 .0)
+answer : (c : tie.After-label) → Replied (recordTable (start c .args .rest .now)) (c .label .result .number) (c .label .result .count) (c .label .last .1 .1 .0)
 answer c =
     let room = c .before .before .before in
     record-answered (start c .args .rest .now) _ _ _ (room .label-room .result) (room .before .before .atoms-of .ensures)
-    (room .before .record-bytes .ensures) (room .label-room .ensures) (c .label .ensures)
+    (room .before .record-bytes .ensures) (room .label-room .ensures) (c .label .ensures .0)
 
 -- which is short enough
 short : (c : tie.After-label) → let a = start c .args in length (recordLine (a .number) (recordTable (a .rest .now))) ≤ 7 * recordBytes (a .rest .now)

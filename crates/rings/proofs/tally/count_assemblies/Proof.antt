@@ -5,10 +5,9 @@ use Prim.Native.Nat.{_-_}
 use native.Mathlib.Omega.{arith}
 use lib.ListN.{length}
 use Rattle.sets.specs.Lists.{setsIn}
-use Rattle.sets.proofs.Lists.{sets-long}
 use Rattle.basis.specs.Held.{membersOf}
 use Rattle.basis.proofs.Holding.{members-at}
-use Rattle.rings.proofs.Tallying.{CountedTo, counted-none, alone-at, countable-all, countable-smallest, counted-more, counted-all}
+use Rattle.rings.proofs.Tallying.{CountedTo, counted-none, as-many-sets, alone-at, countable-all, countable-smallest, counted-more, counted-all}
 use borrow.Author.Needs.{needs}
 use Rattle.rings.proofs.tally.count_assemblies.Statement.{statement}
 use Rattle.rings.proofs.tally.count_assemblies.Tie as tie
@@ -36,7 +35,7 @@ count-assembly-requires c κs =
     let (found, ordered, all, smallest) = start .pre in
     let (counted, f, o) = at .loop .inv in
     let is = members-at (start .args .t2 .members) (at .loop .a) in
-    (alone-at found (omega arith) is (sets-long _ _ f), alone-at ordered (omega arith) is (sets-long _ _ o), countable-all found (omega arith) counted all, countable-smallest found (omega arith) counted smallest)
+    (alone-at found (omega arith) is (as-many-sets _ f), alone-at ordered (omega arith) is (as-many-sets _ o), countable-all found (omega arith) counted all, countable-smallest found (omega arith) counted smallest)
 
 add-a : tie.Need-add-a Inv-loop μ-loop
 add-a c = search needs

@@ -22,52 +22,42 @@ returns-3 c = sym (refused-atoms _ .1 (omega arith, inr (omega arith)))
 returns-4 : tie.Need-returns-4
 returns-4 c = sym (refused-bonds _ .1 (omega arith, omega arith, omega arith))
 
-any-bad-end-requires : tie.Need-any-bad-end-requires
-any-bad-end-requires c κs = search needs
+wrong-ends-requires : tie.Need-wrong-ends-requires
+wrong-ends-requires c κs = search needs
 
 returns-5 : tie.Need-returns-5
-returns-5 c = tried-found (tried-numbers _ (omega arith)) (c .before .any-bad-end .ensures) (c .if5 .taken)
-
-any-self-bond-requires : tie.Need-any-self-bond-requires
-any-self-bond-requires c κs =
-    let start = c .before .before .before .before .before .before .before in
-    let M = table (start .args .atoms) (start .args .bonds .now) in
-    tried-fitting (tried-more (tried-numbers M (omega arith)) (c .before .any-bad-end .ensures) (c .if5 .left))
+returns-5 c = tried-found (tried-numbers _ (omega arith)) (c .before .wrong-ends .ensures .0) (c .if5 .taken)
 
 returns-6 : tie.Need-returns-6
 returns-6 c =
-    let ends = c .before .before in
-    tried-found (tried-more (tried-numbers _ (omega arith)) (ends .before .any-bad-end .ensures) (ends .if5 .left)) (c .before .any-self-bond .ensures) (c .if6 .taken)
+    let (outside, same) = c .before .before .wrong-ends .ensures in
+    tried-found (tried-more (tried-numbers _ (omega arith)) outside (c .before .if5 .left)) same (c .if6 .taken)
 
 any-twice-requires : tie.Need-any-twice-requires
 any-twice-requires c κs =
     let ends = c .before .before in
-    let start = ends .before .before .before .before .before .before .before in
+    let (outside, same) = ends .wrong-ends .ensures in
+    let start = ends .before .before .before .before .before .before in
     let M = table (start .args .atoms) (start .args .bonds .now) in
-    let inside = tried-more (tried-numbers M (omega arith)) (ends .before .any-bad-end .ensures) (ends .if5 .left) in
-    (tried-fitting inside, tried-two (tried-more inside (c .before .any-self-bond .ensures) (c .if6 .left)))
+    let inside = tried-more (tried-numbers M (omega arith)) outside (c .before .if5 .left) in
+    (tried-fitting inside, tried-two (tried-more inside same (c .if6 .left)))
 
 returns-7 : tie.Need-returns-7
 unfolding seenBefore?
 returns-7 c =
     let selfs = c .before .before in
-    let ends = selfs .before .before in
+    let (outside, same) = selfs .before .before .wrong-ends .ensures in
     tried-found
-    (tried-more
-    (tried-more (tried-numbers _ (omega arith)) (ends .before .any-bad-end .ensures) (ends .if5 .left))
-    (selfs .before .any-self-bond .ensures) (selfs .if6 .left))
+    (tried-more (tried-more (tried-numbers _ (omega arith)) outside (selfs .before .if5 .left)) same (selfs .if6 .left))
     (c .before .any-twice .ensures) (c .if7 .taken)
 
 returns-8 : tie.Need-returns-8
 unfolding seenBefore?
 returns-8 c =
     let selfs = c .before .before in
-    let ends = selfs .before .before in
+    let (outside, same) = selfs .before .before .wrong-ends .ensures in
     tried-all
-    (tried-more
-    (tried-more
-    (tried-more (tried-numbers _ (omega arith)) (ends .before .any-bad-end .ensures) (ends .if5 .left))
-    (selfs .before .any-self-bond .ensures) (selfs .if6 .left))
+    (tried-more (tried-more (tried-more (tried-numbers _ (omega arith)) outside (selfs .before .if5 .left)) same (selfs .if6 .left))
     (c .before .any-twice .ensures) (c .if7 .left))
 
 pub refusal-of-spec : {M : Type 1} → statement M
@@ -78,9 +68,8 @@ refusal-of-spec =
     returns-2
     returns-3
     returns-4
-    any-bad-end-requires
+    wrong-ends-requires
     returns-5
-    any-self-bond-requires
     returns-6
     any-twice-requires
     returns-7

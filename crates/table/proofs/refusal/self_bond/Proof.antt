@@ -8,8 +8,8 @@ ends-of-requires c κs = search needs
 
 returns : tie.Need-returns
 returns c =
-    let ends = c .before .ends-of in
-    rw (ends .ensures .0 .0, ends .ensures .1 .0)
+    let (tail, head) = c .before .ends-of .ensures .bond (c .before .before .before .pre) in
+    rw (tail, head)
 
 pub self-bond-spec : {M : Type 1} → statement M
 self-bond-spec = tie.close (tie.spec ends-of-requires returns)
