@@ -1,6 +1,7 @@
 /* Prints what every exported function answers for each table on standard input, and every item that was lent, after the call. A record is
-   field 10 (hex) with the atom count, field 11 with the bond bytes and, where another room than 64 items is to be lent, field 1f with the
-   room in two bytes, high byte first; a field is a tag, a length in two bytes, and its content. tests/walking/protocol.rs has the lines. */
+   field 10 (hex) with the atom count in one byte or in eight, field 11 with the bond bytes and, where another room than 64 items is to be
+   lent, field 1f with the room in two bytes; a field is a tag, a length in two bytes, and its content. Numbers have the high byte first.
+   tests/walking/protocol.rs has the lines. */
 #include <foliocrane.h>
 #include <stdio.h>
 
@@ -30,9 +31,12 @@ struct record {
     size_t room;
 };
 
-/* The number in two bytes. */
-static size_t number_in(const uint8_t *two) {
-    return (size_t)two[0] << 8 | two[1];
+/* The number in so many bytes. */
+static uint64_t number_in(const uint8_t *bytes, size_t length) {
+    uint64_t number = 0;
+    for (size_t i = 0; i < length; i++)
+        number = number << 8 | bytes[i];
+    return number;
 }
 
 /* Takes the field with a tag off the start of the input; 0 if there is none. */
@@ -40,7 +44,7 @@ static int take_field(struct bytes *input, uint8_t tag, struct bytes *content) {
     if (input->length < 3 || input->items[0] != tag)
         return 0;
     content->items = input->items + 3;
-    content->length = number_in(input->items + 1);
+    content->length = number_in(input->items + 1, 2);
     if (input->length - 3 < content->length)
         return 0;
     input->items += 3 + content->length;
@@ -56,16 +60,16 @@ static int take_room(struct bytes *input, size_t *room) {
         return 1;
     if (!take_field(input, ROOM_TAG, &said) || said.length != 2)
         return 0;
-    *room = number_in(said.items);
+    *room = number_in(said.items, said.length);
     return *room <= MOST_ROOM;
 }
 
 /* Takes a record off the start of the input; 0 if it is broken. */
 static int take_record(struct bytes *input, struct record *record) {
     struct bytes atoms;
-    if (!take_field(input, ATOMS_TAG, &atoms) || atoms.length != 1)
+    if (!take_field(input, ATOMS_TAG, &atoms) || (atoms.length != 1 && atoms.length != 8))
         return 0;
-    record->atoms = atoms.items[0];
+    record->atoms = number_in(atoms.items, atoms.length);
     return take_field(input, BONDS_TAG, &record->bonds) && take_room(input, &record->room);
 }
 

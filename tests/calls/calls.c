@@ -1,7 +1,8 @@
 /* Calls every exported function, as C calls it, on examples S1 to S10 and S13 to S15 of docs/REFERENCE.md and on a few tables more. Each
    call's number, its count and every element of the list that was lent are held to what the example says: the items written, the rest
    as lent, all of it as lent where the call is refused. Each list is lent with no room, with one place too few, with just enough and
-   with more, over two fillings, and lies between guard bytes; so do the bond bytes. */
+   with more, over two fillings, and lies between guard bytes; so do the bond bytes. Empty lists are lent at an address that can't be read
+   too. */
 #include <foliocrane.h>
 #include <stdio.h>
 #include <string.h>
@@ -67,8 +68,10 @@ static const struct example examples[] = {
     {"S15", 64, {128, line_of_64}, 0, 0, WORDS(~0ull), BYTES(0), WORDS(~0ull), WORDS(~0ull), WORDS(~0ull),
      "01000101 020003400001 0300024001 0400020140"},
     {"S15 with atom count 65", 65, {128, line_of_64}, FOLIOCRANE_ATOMS, 0, NONE, NONE, NONE, NONE, NONE, ""},
+    {"S15 with atom count 2^32 + 64", (1ull << 32) + 64, {128, line_of_64}, FOLIOCRANE_ATOMS, 0, NONE, NONE, NONE, NONE, NONE, ""},
     {"S15 with atom count 2^63", 1ull << 63, {128, line_of_64}, FOLIOCRANE_ATOMS, 0, NONE, NONE, NONE, NONE, NONE, ""},
     {"S15 with atom count 2^63 + 64", (1ull << 63) + 64, {128, line_of_64}, FOLIOCRANE_ATOMS, 0, NONE, NONE, NONE, NONE, NONE, ""},
+    {"S15 with atom count 2^64 - 1", ~0ull, {128, line_of_64}, FOLIOCRANE_ATOMS, 0, NONE, NONE, NONE, NONE, NONE, ""},
     {"S15 with 65 bonds", 64, {130, line_of_64}, FOLIOCRANE_BONDS, 0, NONE, NONE, NONE, NONE, NONE, ""},
     {"two atoms apart", 2, NONE, 0, 0, NONE, NONE, NONE, NONE, NONE, "01000100 020000 030000 040000"},
     {"S4 and a three-ring", 7, BYTES(0, 1, 1, 2, 2, 3, 3, 0, 0, 2, 4, 5, 5, 6, 6, 4), 0, 0, WORDS(15, 19, 224), BYTES(0, 0, 1),
@@ -274,6 +277,30 @@ static void try_example(const struct example *e) {
         try_call(e, &calls[i]);
 }
 
+/* Empty lists at an address that is not to be followed: an atom by itself has no rings, and its label and sidecar find no room. */
+static void try_nowhere(void) {
+    static const struct example alone = {"one atom, with lists of length 0 at address 8", 1, NONE, 0, 0, NONE, NONE, NONE, NONE, NONE, ""};
+    const uint8_t *from = (const uint8_t *)8;
+    uint64_t *words = (uint64_t *)8;
+    uint8_t *bytes = (uint8_t *)8;
+    const struct {
+        const char *name;
+        foliocrane_answer answer;
+        uint8_t number;
+    } calls[] = {
+        {"foliocrane_check", foliocrane_check(1, from, 0), 0},
+        {"foliocrane_basis_rings", foliocrane_basis_rings(1, from, 0, words, 0), 0},
+        {"foliocrane_assemblies", foliocrane_assemblies(1, from, 0, bytes, 0), 0},
+        {"foliocrane_all_rings", foliocrane_all_rings(1, from, 0, words, 0), 0},
+        {"foliocrane_smallest_basis", foliocrane_smallest_basis(1, from, 0, words, 0), 0},
+        {"foliocrane_reduced_basis", foliocrane_reduced_basis(1, from, 0, words, 0), 0},
+        {"foliocrane_label", foliocrane_label(1, from, 0, bytes, 0), FOLIOCRANE_ROOM},
+        {"foliocrane_sidecar", foliocrane_sidecar(1, from, 0, bytes, 0), FOLIOCRANE_ROOM},
+    };
+    for (size_t i = 0; i < sizeof calls / sizeof calls[0]; i++)
+        check(calls[i].answer.number == calls[i].number && calls[i].answer.count == 0, &alone, calls[i].name, 0, "the answer");
+}
+
 int main(void) {
     draw_line();
     if (list_six_joined() != 197) {
@@ -282,6 +309,7 @@ int main(void) {
     }
     for (size_t i = 0; i < EXAMPLES; i++)
         try_example(&examples[i]);
+    try_nowhere();
     if (failures > 0)
         printf("calls: %zu of %zu checks do not hold; first %s\n", failures, checks, first);
     else

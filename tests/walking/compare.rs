@@ -12,7 +12,24 @@ use std::time::{Duration, Instant};
 /// What a run of the program gave.
 struct Ran {
     output: Vec<u8>,
+    /// What it said on standard error.
+    said: String,
     status: ExitStatus,
+}
+
+/// The exit status of `./run ringline` where the output does not end in `end` and a number.
+const NOT_WHOLE: i32 = 3;
+
+/// What a comparison found: what was compared, or the first fault.
+pub enum Outcome {
+    Agrees {
+        records: usize,
+        printed: usize,
+    },
+    /// A line of the output is another one than the search's.
+    Differs(String),
+    /// The program did not start, run to its end, or end well.
+    Failed(String),
 }
 
 /// Compares the program on all inputs; prints the first difference, or what was compared, and says whether all agree.
@@ -20,55 +37,69 @@ pub fn compare(program: Program, command: &[String], wanted: &Wanted, patience: 
     let start = Instant::now();
     let batches = batches(program, wanted);
     let made = start.elapsed();
+    match compared(program, command, &batches, patience) {
+        Outcome::Agrees { records, printed } => println!(
+            "{} agrees: {} inputs, {records} records, {printed} bytes printed, seed {}; {:.1} s, {:.1} s of it to make the tables",
+            program.name(),
+            batches.len(),
+            wanted.seed,
+            start.elapsed().as_secs_f32(),
+            made.as_secs_f32()
+        ),
+        Outcome::Differs(fault) | Outcome::Failed(fault) => {
+            println!("{fault}");
+            return false;
+        }
+    }
+    true
+}
+
+/// Compares the program on inputs, up to the first fault.
+pub fn compared(
+    program: Program,
+    command: &[String],
+    batches: &[Batch],
+    patience: Duration,
+) -> Outcome {
     let mut search = Search::new(None);
     let mut count = 0;
     let mut printed = 0;
-    for batch in &batches {
+    for batch in batches {
+        let failed = |fault: String| {
+            let name = program.name();
+            Outcome::Failed(format!("{name}, input \"{}\": {fault}", batch.name))
+        };
         let ran = run(command, &batch.bytes, patience, || {
             search.text(program, &batch.bytes)
         });
         let (ran, expected) = match ran {
             Ok(both) => both,
-            Err(fault) => {
-                println!("{}, input \"{}\": {fault}", program.name(), batch.name);
-                return false;
-            }
+            Err(fault) => return failed(fault),
         };
-        if ran.status.code().is_some_and(|code| code != 0) {
-            println!(
-                "{}, input \"{}\": the program failed, {}",
-                program.name(),
-                batch.name,
-                ran.status
-            );
-            return false;
+        let whole = expected
+            .last()
+            .is_some_and(|piece| piece.text.starts_with("end "));
+        let well = |code| code == 0 || program == Program::Ringline && code == NOT_WHOLE && !whole;
+        if ran.status.code().is_some_and(|code| !well(code)) {
+            return failed(format!("the program failed, {}; {}", ran.status, ran.said));
         }
         if let Some(difference) = difference(program, batch, &expected, &ran.output) {
-            println!("{difference}");
-            println!("  the program ended with {}", ran.status);
-            return false;
+            let ended = format!("  the program ended with {}", ran.status);
+            return Outcome::Differs(difference + "\n" + &ended);
         }
         if ran.status.code().is_none() {
-            println!(
-                "{}, input \"{}\": the text agrees, but the program ended with {}",
-                program.name(),
-                batch.name,
+            return failed(format!(
+                "the text agrees, but the program ended with {}",
                 ran.status
-            );
-            return false;
+            ));
         }
         count += records_in(program, &batch.bytes);
         printed += ran.output.len();
     }
-    println!(
-        "{} agrees: {} inputs, {count} records, {printed} bytes printed, seed {}; {:.1} s, {:.1} s of it to make the tables",
-        program.name(),
-        batches.len(),
-        wanted.seed,
-        start.elapsed().as_secs_f32(),
-        made.as_secs_f32()
-    );
-    true
+    Outcome::Agrees {
+        records: count,
+        printed,
+    }
 }
 
 /// Runs the command on an input, and meanwhile works out what it should print.
@@ -82,12 +113,18 @@ fn run<T>(
         .args(&command[1..])
         .stdin(Stdio::piped())
         .stdout(Stdio::piped())
+        .stderr(Stdio::piped())
         .spawn()
         .map_err(|fault| format!("{} does not start: {fault}", command[0]))?;
-    let (mut to, mut from) = match (child.stdin.take(), child.stdout.take()) {
-        (Some(to), Some(from)) => (to, from),
-        _ => return Err("the program has no pipes".into()),
+    let pipes = (child.stdin.take(), child.stdout.take(), child.stderr.take());
+    let (Some(mut to), Some(mut from), Some(mut aside)) = pipes else {
+        return Err("the program has no pipes".into());
     };
+    let said = thread::spawn(move || {
+        let mut said = Vec::new();
+        drop(aside.read_to_end(&mut said));
+        String::from_utf8_lossy(&said).trim_end().to_string()
+    });
     let input = input.to_vec();
     // A program may stop reading early, so a broken pipe is no fault of its own.
     let writer = thread::spawn(move || drop(to.write_all(&input)));
@@ -111,7 +148,13 @@ fn run<T>(
         .wait()
         .map_err(|fault| format!("no exit status: {fault}"))?;
     drop(writer.join());
-    Ok((Ran { output, status }, expected))
+    let said = said.join().unwrap_or_default();
+    let ran = Ran {
+        output,
+        said,
+        status,
+    };
+    Ok((ran, expected))
 }
 
 /// The first line in which the output differs from what is expected, with the table that shows it.

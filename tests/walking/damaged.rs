@@ -86,7 +86,7 @@ fn damage(base: &Sketch, faults: &[u8], random: &mut Random) -> Table {
         bonds.insert(at, random.pick(&[(beyond, other), (other, beyond)]));
     }
     if faults.contains(&2) {
-        atoms = random.pick(&[0, 65, 66, 128, 200, 255]);
+        atoms = random.pick(&[0, 65, 66, 128, 200, 255, (1 << 32) + 64, usize::MAX]);
     }
     turn_some(&mut bonds, random);
     let mut table = Table::new(atoms as u64, &bonds);
@@ -125,7 +125,9 @@ pub fn at_the_edges() -> Vec<Damaged> {
     for atoms in [1, 2, 63, 64] {
         made.push(with(atoms, &[], 0));
     }
-    for atoms in [0, 65, 66, 127, 128, 129, 192, 200, 254, 255] {
+    let of_a_byte = [0, 65, 66, 127, 128, 129, 192, 200, 254, 255];
+    let of_more = [256, (1 << 32) + 64, (1 << 63) + 1, u64::MAX];
+    for atoms in of_a_byte.into_iter().chain(of_more) {
         made.push(with(atoms, &[], 2));
         made.push(with(atoms, &[(0, 1)], 2));
         made.push(with(atoms, &[(0, 0)], 2));

@@ -4,6 +4,7 @@
 //!
 //! ```text
 //! walking self [--seed N]                                  tests the search itself
+//! walking planted [OPTIONS]                                tests the comparison: it reports every error put into the search
 //! walking compare PROGRAM [OPTIONS] -- COMMAND ARGUMENT..  compares a program, started by the command for each input
 //! walking make DIRECTORY [SEED] [OPTIONS]                  writes the inputs (.in) and what is expected (.out)
 //! walking serve PROGRAM [--wrong NAME]                     answers like the program, from the search
@@ -20,6 +21,7 @@ mod examples;
 mod frames;
 mod framing;
 mod lists;
+mod planted;
 mod protocol;
 mod random;
 mod selfcheck;
@@ -106,6 +108,7 @@ fn program_called(read: &Arguments) -> Result<Program, String> {
 fn run(mode: &str, mut read: Arguments) -> Result<bool, String> {
     match mode {
         "self" => Ok(selfcheck::run(read.wanted.seed)),
+        "planted" => planted::run(&read.wanted, read.patience),
         "compare" => {
             let program = program_called(&read)?;
             if read.command.is_empty() {

@@ -1,8 +1,9 @@
 //! What the programs read and print.
 //!
 //! A record is field 10 (hex) with the atom count in one byte, then field 11 with the bond bytes. `ringline` prints what
-//! docs/REFERENCE.md says. `answers` may find a field 1f (hex) after field 11, two bytes, high byte first: the room, the number of
-//! items that every list-writing entry is lent. Without it the room is ROOM_UNSAID. No room is above MOST_ROOM.
+//! docs/REFERENCE.md says. `answers` takes an atom count of eight bytes too, high byte first. It may find a field 1f (hex) after
+//! field 11, two bytes, high byte first: the room, the number of items that every list-writing entry is lent. Without it the
+//! room is ROOM_UNSAID. No room is above MOST_ROOM.
 //!
 //! `answers` prints for each record a line with its number from 1, then, words parted by single spaces:
 //!
@@ -70,6 +71,11 @@ impl Program {
             Program::Lookups => MOST_LISTS,
         }
     }
+
+    /// Can a table be said to the program? To `ringline` the atom count is one byte.
+    pub fn takes(self, table: &Table) -> bool {
+        self != Program::Ringline || table.atoms <= u64::from(u8::MAX)
+    }
 }
 
 /// A record of the input: its table, its room if it says one, and its bytes.
@@ -79,9 +85,13 @@ pub struct Record {
     pub bytes: Vec<u8>,
 }
 
-/// The bytes of a record.
+/// The bytes of a record. An atom count that is no byte takes eight.
 pub fn record_bytes(table: &Table, room: Option<usize>) -> Vec<u8> {
-    let mut bytes = field(ATOMS_TAG, vec![table.atoms as u8]);
+    let atoms = match u8::try_from(table.atoms) {
+        Ok(byte) => vec![byte],
+        Err(_) => table.atoms.to_be_bytes().to_vec(),
+    };
+    let mut bytes = field(ATOMS_TAG, atoms);
     bytes.extend(field(BONDS_TAG, table.bytes.clone()));
     if let Some(room) = room {
         bytes.extend(field(ROOM_TAG, (room as u16).to_be_bytes().to_vec()));
@@ -99,7 +109,11 @@ fn take_field(input: &[u8], tag: u8) -> Option<(&[u8], &[u8])> {
 /// The record at the start of the input, and what follows it.
 fn take_record(program: Program, input: &[u8]) -> Option<(Record, &[u8])> {
     let (atoms, rest) = take_field(input, ATOMS_TAG)?;
-    let &[atoms] = atoms else { return None };
+    let atoms = match (<[u8; 1]>::try_from(atoms), <[u8; 8]>::try_from(atoms)) {
+        (Ok([byte]), _) => u64::from(byte),
+        (_, Ok(eight)) if program == Program::Answers => u64::from_be_bytes(eight),
+        _ => return None,
+    };
     let (bonds, mut rest) = take_field(rest, BONDS_TAG)?;
     let mut room = None;
     if program == Program::Answers && rest.first() == Some(&ROOM_TAG) {
@@ -109,7 +123,7 @@ fn take_record(program: Program, input: &[u8]) -> Option<(Record, &[u8])> {
         rest = after;
     }
     let table = Table {
-        atoms: u64::from(atoms),
+        atoms,
         bytes: bonds.to_vec(),
     };
     Some((

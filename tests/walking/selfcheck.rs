@@ -115,6 +115,7 @@ fn document_example(report: &mut Report, example: &Example) {
 /// S14: two words are too few for S4's three rings and stay as lent; three are enough.
 fn rooms_of_s14(report: &mut Report) {
     let Some(s4) = examples().into_iter().find(|example| example.name == "S4") else {
+        report.check(false, || "S14: the example S4 is missing".into());
         return;
     };
     let found = Found::of(&s4.table);

@@ -226,11 +226,14 @@ pub fn cases(wanted: &Wanted) -> Vec<Case> {
     set.cases
 }
 
-/// All inputs of a program. Broken framing is tried on `ringline` only.
+/// All inputs of a program. Broken framing is tried on `ringline` only, and atom counts of more than a byte are not.
 pub fn batches(program: Program, wanted: &Wanted) -> Vec<Batch> {
     let mut search = Search::new(None);
     let mut batches = vec![Batch::default()];
     for case in cases(wanted) {
+        if !program.takes(&case.table) {
+            continue;
+        }
         let rooms = if program == Program::Ringline {
             &[None][..]
         } else {

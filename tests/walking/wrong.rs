@@ -1,7 +1,8 @@
-//! Errors put into the search on demand, to see that a comparison reports them. Among them are the traps of
+//! Errors put into the search on demand, to see that a comparison reports them (planted.rs). Among them are the traps of
 //! docs/REFERENCE.md. Those of the size lookup are put in where its lines are made (lists.rs).
 
 use crate::answers::{by_assembly, reduced_basis, smallest_basis, Found};
+use crate::protocol::Program;
 use crate::table::Table;
 use crate::walk::{in_order, Graph};
 
@@ -52,6 +53,17 @@ pub const ERRORS: [(&str, Wrong); 19] = [
     ("lookup-one-word", LookupOneWord),
     ("end-after-frame", EndAfterFrame),
 ];
+
+/// The programs whose answers an error spoils: `ringline` prints refusals and labels, `answers` lists and rooms too, and `lookups` what
+/// the size lookup hands back.
+pub fn shown_by(wrong: Wrong) -> &'static [Program] {
+    match wrong {
+        EndAfterFrame => &[Program::Ringline],
+        LookupFirstOnly | LookupOneWord => &[Program::Lookups],
+        NumberOrder | ExactFitRefused | RestWritten | WrittenWhenRefused => &[Program::Answers],
+        _ => &[Program::Ringline, Program::Answers],
+    }
+}
 
 impl Wrong {
     /// Spoils what was found for a table.
