@@ -2,8 +2,15 @@
 
    A table is an atom count and two bytes for each bond, the numbers of its two atoms, counted from 0. Every table is answered.
    A list is lent as a pointer and a length in items; nothing past what is counted is touched, and nothing at all where the table is refused.
-   A set of bonds is one word, bit k for bond k. No pointer may be null; an empty list may point anywhere. The lists of one call, the bond
-   bytes and the list that is written, must not overlap.
+   A set of bonds is one word, bit k for bond k.
+
+   A C caller sees to what no contract can ask, and nothing else is asked of any caller:
+   - Every byte of a list, as long as its length says, can be read, and of the list that is written to (`out`), written.
+   - No pointer is null. That of an empty list, of length 0, is not followed: any other address will do, if it is aligned.
+   - A list of words (uint64_t) lies at a multiple of 8 bytes, as C lays out every uint64_t. Bytes lie anywhere.
+   - The lists of one call, the bond bytes and the list that is written to, do not overlap.
+   - While a call runs, no other thread writes to its lists, nor reads the one that is written to.
+   - The stack has room for the call, as below.
 
    No state is kept and no memory asked for, so several threads may call at the same time, each with lists that no other one writes.
 
@@ -38,32 +45,32 @@ enum {
     FOLIOCRANE_ROOM = 8     /* the answer has more items than the lent list */
 };
 
-/* Is the table accepted, and how many basis rings has it? Stack: 2,152 bytes. */
+/* Is the table accepted, and how many basis rings has it? Stack: 3,176 bytes. */
 foliocrane_answer foliocrane_check(uint64_t atoms, const uint8_t *bonds, size_t bonds_len);
 
-/* The basis rings, in order of their closure bonds. At most 64 words. Stack: 2,168 bytes. */
+/* The basis rings, in order of their closure bonds. At most 64 words. Stack: 3,720 bytes. */
 foliocrane_answer foliocrane_basis_rings(uint64_t atoms, const uint8_t *bonds, size_t bonds_len, uint64_t *out, size_t out_len);
 
-/* The assembly of each basis ring. At most 64 bytes. Stack: 3,224 bytes. */
+/* The assembly of each basis ring. At most 64 bytes. Stack: 4,264 bytes. */
 foliocrane_answer foliocrane_assemblies(uint64_t atoms, const uint8_t *bonds, size_t bonds_len, uint8_t *out, size_t out_len);
 
-/* All rings, the smaller first, and of one size the lower word. At most 6,547 words. Stack: 5,512 bytes with few sums, at most
-   110,904. */
+/* All rings, the smaller first, and of one size the lower word. At most 6,547 words. Stack: 6,968 bytes with few sums, at most
+   111,432. */
 foliocrane_answer foliocrane_all_rings(uint64_t atoms, const uint8_t *bonds, size_t bonds_len, uint64_t *out, size_t out_len);
 
-/* The smallest basis, as taken from all rings in their order. At most 64 words. Stack: 6,552 bytes with few sums, at most
-   111,960. */
+/* The smallest basis, as taken from all rings in their order. At most 64 words. Stack: 7,096 bytes with few sums, at most
+   112,504. */
 foliocrane_answer foliocrane_smallest_basis(uint64_t atoms, const uint8_t *bonds, size_t bonds_len, uint64_t *out, size_t out_len);
 
 /* The reduced basis of 1975: it depends on the numbering, and may have sets that are no rings. At most 64 words. Stack:
-   5,416 bytes. */
+   6,456 bytes. */
 foliocrane_answer foliocrane_reduced_basis(uint64_t atoms, const uint8_t *bonds, size_t bonds_len, uint64_t *out, size_t out_len);
 
-/* The label: it depends on the molecule and not on the numbering. At most 512 bytes. Stack: 7,992 bytes with few sums, at most
-   28,200. */
+/* The label: it depends on the molecule and not on the numbering. At most 512 bytes. Stack: 9,032 bytes with few sums, at most
+   28,248. */
 foliocrane_answer foliocrane_label(uint64_t atoms, const uint8_t *bonds, size_t bonds_len, uint8_t *out, size_t out_len);
 
-/* The sidecar: the reduced basis in a field of its own. At most 515 bytes. Stack: 4,888 bytes. */
+/* The sidecar: the reduced basis in a field of its own. At most 515 bytes. Stack: 5,928 bytes. */
 foliocrane_answer foliocrane_sidecar(uint64_t atoms, const uint8_t *bonds, size_t bonds_len, uint8_t *out, size_t out_len);
 
 #ifdef __cplusplus
