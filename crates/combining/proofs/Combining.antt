@@ -2,7 +2,7 @@
 -- Assumes nothing.
 use mathlib.Core.Path.{_≡_, refl, sym, ap, ap₂, subst, _∙_}
 use mathlib.Core.Logic.{_↔_, ⊎-elim}
-use mathlib.Core.Bool.{Bool, true, false, not}
+use mathlib.Core.Bool.{Bool, true, false, not, _||_}
 use mathlib.Core.List.{List, [], _∷_, _++_, append-assoc, append-nil, map-append, List·Memᴰ as In, List·Memᴰ·not-nil as not-in-nil}
 use Prim.Native.Nat.{ℕ, suc, _+_, _<_, _≤_}
 use native.Mathlib.Numerals.{add-one}
@@ -14,7 +14,7 @@ use lib.Bits.{bitXor}
 use borrow.Author.Tests.{not-true}
 use Rattle.sets.specs.Bits.{Sub, sub}
 use Rattle.sets.proofs.Size.{sub-test, test-sub}
-use Rattle.definitions.proofs.Tests.{not-passed, clashes, every-at, every-of}
+use Rattle.definitions.proofs.Tests.{not-passed, clashes, every-at, every-of, by, or-one, or-neither}
 use Rattle.definitions.proofs.Lists.{getD-in, in-getD, in-snoc}
 use Rattle.lent.specs.Appended.{between}
 use Rattle.lent.proofs.Between.{between-none, between-one, between-split, between-in}
@@ -97,9 +97,9 @@ tested-none {found} {from} s f = record {
 }
 
 module _ {found : List ℕ} {from to s i : ℕ} (u : Tested found from to s i) where
-  -- one turn: the next ring does not lie inside s
-  pub tested-more : {w : ℕ} {r : Bool} → i < to → w ≡ getD found i 0 → r ≡ sub w s → r ≡ false → Tested found from to s (i + 1)
-  tested-more {w} h e t q = record {
+  -- the next ring does not lie inside s
+  one-more : {w : ℕ} {r : Bool} → i < to → w ≡ getD found i 0 → r ≡ sub w s → r ≡ false → Tested found from to s (i + 1)
+  one-more {w} h e t q = record {
     few = u .few;
     after = omega (arith, u .after);
     within = omega arith;
@@ -115,12 +115,30 @@ module _ {found : List ℕ} {from to s i : ℕ} (u : Tested found from to s i) w
           ap (λ l. between from i found ++ l) (sym (between-one i found (omega (arith, u .few))))
           ∙ between-split from i (i + 1) found (u .after) (omega arith) (omega (arith, u .few))
 
-  -- a ring lies inside s
-  pub tested-broken : {w : ℕ} {r : Bool} → i < to → w ≡ getD found i 0 → r ≡ sub w s → r ≡ true → false ≡ clear? (between from to found) s
-  tested-broken h e t q =
+  -- a ring from there on lies inside s
+  broken : {j w : ℕ} {r : Bool} → i ≤ j → j < to → w ≡ getD found j 0 → r ≡ sub w s → r ≡ true → false ≡ clear? (between from to found) s
+  broken {j} b h e t q =
       sym (not-passed (clear? (between from to found) s) (λ c.
-      clear-test (between from to found) s .0 c (getD found i 0) (between-in from i to found (u .after) h (u .few)) (test-sub _ s (ap (λ y. sub y s) (sym e) ∙ sym t ∙ q))))
+      clear-test (between from to found) s .0 c (getD found j 0) (between-in from j to found (omega (arith, u .after)) h (u .few)) (test-sub _ s (ap (λ y. sub y s) (sym e) ∙ sym t ∙ q))))
 
   -- none does
   pub tested-all : to ≤ i → true ≡ clear? (between from to found) s
   tested-all h = subst (λ k. true ≡ clear? (between from k found) s) (le-antisymm (u .within) h) (sym (u .none))
+
+-- the next two rings, and whether they lie inside s
+module _ {found : List ℕ} {from to s i : ℕ} (u : Tested found from to s i) {w w′ : ℕ} {r r′ : Bool}
+    (h : i + 1 < to) (e : w ≡ getD found i 0) (e′ : w′ ≡ getD found (i + 1) 0) (t : r ≡ sub w s) (t′ : r′ ≡ sub w′ s) where
+  -- one turn: neither does
+  pub tested-more : r || r′ ≡ false → Tested found from to s (i + 2)
+  tested-more q =
+      let (x, y) = or-neither r r′ q in
+      subst (Tested found from to s) (omega arith) (one-more (one-more u (omega arith) e t x) h e′ t′ y)
+
+  -- one of them does
+  pub tested-broken : r || r′ ≡ true → false ≡ clear? (between from to found) s
+  tested-broken q = ⊎-elim (broken u (omega arith) (omega arith) e t) (broken u (omega arith) h e′ t′) (or-one r r′ q)
+
+-- the last ring decides
+pub tested-last : {found : List ℕ} {from to s i w : ℕ} {r : Bool} → Tested found from to s i → i < to → to ≤ i + 1 → w ≡ getD found i 0 → r ≡ sub w s
+    → not r ≡ clear? (between from to found) s
+tested-last {r = r} u h l e t = by r (λ q. rw q (broken u (omega arith) h e t q)) (λ q. rw q (tested-all (one-more u h e t q) l))

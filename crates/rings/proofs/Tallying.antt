@@ -3,26 +3,28 @@
 use mathlib.Core.Path.{_≡_, refl, sym, ap, subst, subst⁻¹, _∙_}
 use mathlib.Core.Logic.{_≢_}
 use mathlib.Core.Bool.{false}
-use mathlib.Core.List.{List, [], _∷_, map, map-append, List·Memᴰ as In, List·Memᴰ·head as here}
+use mathlib.Core.List.{List, [], _∷_, map, map-append, List·Memᴰ as In, List·Memᴰ·head as here, List·Memᴰ·eq-of-singleton as eq-of-singleton}
 use Prim.Native.Nat.{ℕ, _+_, _^_, _/_, _<_, _≤_, max}
 use native.Mathlib.Nat.{le-antisymm}
 use native.Mathlib.Omega.{arith}
-use lib.ListN.{length, take, getD, length-map, List·getD-eq-default}
+use lib.ListN.{length, take, getD, set, length-map, List·getD-eq-default}
+use lib.Bits.{xor-zero-r}
 use lib.Pow.{pow-mono}
 use lib.Dec.{ltb}
 use borrow.Author.Tests.{ltb-true, ltb-false}
-use Rattle.sets.specs.Bits.{has, size, meet}
+use Rattle.sets.specs.Bits.{has, size, meet, IsNext}
 use Rattle.sets.specs.Ring.{room}
 use Rattle.sets.specs.Bond as bond
 use Rattle.sets.specs.Lists.{setsIn, words}
 use Rattle.sets.proofs.Lists.{sets-length}
 use Rattle.definitions.specs.Table.{allSizes}
-use Rattle.definitions.specs.Search.{sort, insert, picked}
+use Rattle.definitions.specs.Search.{every, keep, sort, insert, picked}
 use Rattle.definitions.specs.AllRings.{before}
 use Rattle.definitions.specs.Smallest.{chosen, taking}
 use Rattle.definitions.specs.Label.{occurs}
 use Rattle.definitions.proofs.Tests.{by}
-use Rattle.definitions.proofs.Lists.{length-listed, setOf-is, size-setOf, gather-step, gather-zero, gather-in}
+use Rattle.definitions.proofs.Passing.{passed-next, passed-first, passed-all}
+use Rattle.definitions.proofs.Lists.{length-listed, listed-has, setOf-is, size-setOf, gather-step, gather-zero, gather-in}
 use Rattle.definitions.proofs.Sorting.{occurs-nil, occurs-append, length-sort, sort-in}
 use Rattle.spans.proofs.Spans.{span-in}
 use Rattle.spans.proofs.Choice.{span→sum}
@@ -30,13 +32,13 @@ use Rattle.spans.proofs.Taking.{taking-nil, taking-keep, taking-length-le}
 use Rattle.spans.proofs.Apart.{taken-apart}
 use Rattle.lent.specs.Appended.{Appended}
 use Rattle.lent.proofs.Between.{appended-take}
-use Rattle.combining.specs.Gibbs.{combined, foundAt, foundIn}
+use Rattle.combining.specs.Gibbs.{clear?, ringsFrom, combined, foundAt, foundIn}
 use Rattle.combining.proofs.Turns.{found-few}
 use Rattle.combining.proofs.Exactly.{combined-sum}
 use Rattle.ordering.specs.Sizes.{Countable, Tallied}
-use Rattle.ordering.proofs.Sizing.{occurs-le, tallied-higher}
+use Rattle.ordering.proofs.Sizing.{occurs-le, tallied-higher, Tallying, tallying-none, tallying-more, tallying-all}
 use Rattle.choosing.specs.Elimination.{Choosable, Selected}
-use Rattle.rings.specs.Tally.{mostInOne, mostInAll, Alone, Separate}
+use Rattle.rings.specs.Tally.{mostInOne, mostInAll, Single, Alone, Separate}
 use Rattle.perception.proofs.Perceiving.{all-found-most}
 
 -- as many basis rings are picked as the set of places has
@@ -129,16 +131,59 @@ module _ {sets start found : List ℕ} {n : ℕ} (g : Appended start 0 sets foun
           subst (λ l. Tallied l smallest₀ 0 smallest r) e (tallied-lowered few u),
         )
 
-    -- of one set it is that one
-    pub both-one : n ≡ 1 → ((x : ℕ) → In x sets → x ≢ 0) → Tallied (take n found) smallest₀ mid smallest r → Both sets all₀ smallest₀ all smallest r
-    both-one e some u = both-counted (first ∙ sym (taken-alone sets (omega (arith, g .end)) some)) u
-
-    -- else it is chosen from them in order
+    -- which is chosen from them in order
     pub both-chosen : {ordered lent taken : List ℕ} {k : ℕ} → ordered ≡ sort before (take n found) → Selected ordered lent taken k
         → Tallied (take k taken) smallest₀ mid smallest r → Both sets all₀ smallest₀ all smallest r
     both-chosen e s u = both-counted (s .list ∙ ap (taking []) (e ∙ ap (sort before) first)) u
 
+-- ---- a ring that is alone in its assembly, given by its place
+
+-- one set is counted under its size
+tallied-one : {start : List ℕ} (x : ℕ) {z : ℕ} → Countable start mostInOne → z ≡ size x → z < allSizes
+    → Tallied (x ∷ []) start 0 (set start z (getD start z 0 + 1)) (z + 1)
+tallied-one {start} x c e h =
+    let none : Tallying (x ∷ []) 1 start 0 start 0 0 = tallying-none 0 (omega arith) (countable-less c (omega arith)) in
+    tallying-all (tallying-more none (omega arith) e h (omega arith, omega arith, λ l. omega arith)) (omega arith)
+
+module _ {rings : List ℕ} {places i : ℕ} (s : Single rings places) (b : places < 2 ^ room) (n : IsNext room places 0 i) where
+  -- there is such a place
+  pub single-inside : i < room
+  single-inside =
+      by (ltb i room) (ltb-true i room)
+      (λ t. absurd (omega (
+        arith,
+        s .one,
+        length-picked rings places b,
+        ap length (sym (passed-all (λ k. getD rings k 0) (passed-next n) (ltb-false i room t)) ∙ passed-first (λ k. getD rings k 0) n),
+      )))
+
+  -- what is found is the ring there
+  single-found : combined (picked rings places) ≡ getD rings i 0 ∷ []
+  unfolding ringsFrom keep clear? every
+  single-found =
+      ap combined (only (picked rings places) (length-picked rings places b ∙ s .one) (listed-has room (has places) (λ k. getD rings k 0) i single-inside (n .member single-inside)))
+      ∙ ap (λ x. x ∷ []) (xor-zero-r (getD rings i 0))
+    where
+      only : {x : ℕ} (l : List ℕ) → length l ≡ 1 → In x l → l ≡ x ∷ []
+      only [] e m = absurd (omega arith)
+      only (y ∷ []) e m = ap (λ z. z ∷ []) (sym (eq-of-singleton m))
+      only (y ∷ z ∷ l) e m = absurd (omega arith)
+
+  -- and it is counted, and taken
+  pub both-single : {all smallest : List ℕ} {z : ℕ} → Countable all mostInOne → Countable smallest mostInOne → z ≡ size (getD rings i 0) → z < allSizes
+      → Both (combined (picked rings places)) all smallest (set all z (getD all z 0 + 1)) (set smallest z (getD smallest z 0 + 1)) (z + 1)
+  both-single {all} {smallest} {z} c d e h = (
+    subst⁻¹ (λ l. Tallied l all 0 (set all z (getD all z 0 + 1)) (z + 1)) single-found (tallied-one (getD rings i 0) c e h),
+    subst⁻¹ (λ l. Tallied l smallest 0 (set smallest z (getD smallest z 0 + 1)) (z + 1))
+        (taken-alone (combined (picked rings places)) (ap length single-found) (s .some) ∙ single-found)
+        (tallied-one (getD rings i 0) d e h),
+  )
+
 -- ---- one assembly
+
+-- in lists with room for its sums
+pub alone-fits : {rings : List ℕ} {places m : ℕ} (k : ℕ) → Alone rings places m → 2 ^ size places ≤ k → Alone rings places k
+alone-fits k h e = record { small = h .small; room = e; some = h .some }
 
 -- a list of so many sets has room for what is found in it
 pub alone-room : {rings : List ℕ} {places m : ℕ} → Alone rings places m → 0 + length (combined (picked rings places)) ≤ m

@@ -26,6 +26,11 @@ pub record Alone (rings : List ℕ) (places m : ℕ) : Type 0 where
   pub room : 2 ^ size places ≤ m
   pub some : (x : ℕ) → In x (combined (picked rings places)) → x ≢ 0
 
+-- a ring that is alone in its assembly
+pub record Single (rings : List ℕ) (places : ℕ) : Type 0 where
+  pub one : size places ≡ 1
+  pub some : (x : ℕ) → In x (combined (picked rings places)) → x ≢ 0
+
 -- the first n assemblies, given by their sets of basis rings: what is found in one shares no bond with what is found in another
 pub record Separate (rings members : List ℕ) (n m : ℕ) : Type 0 where
   pub counted : n ≤ maxBonds

@@ -54,18 +54,18 @@ returns-2 c =
     let at = turn .before in
     let held = at .before .before .before .before in
     perceives-tangled (held .basis-of .ensures) (omega arith) (at .assemblies-of .ensures)
-    (added-tangled (turn .loop .inv) (omega arith) (told (c .before .before)) (c .before .if2 .taken)) (c .refused2 .ensures)
+    (added-tangled (turn .loop .inv) (omega arith) (told (c .before .before)) (omega arith)) (c .refused2 .ensures)
 
 shl-sums : tie.Need-shl-sums Inv-loop μ-loop
 shl-sums c = search needs
 
 sub-sums : tie.Need-sub-sums Inv-loop μ-loop
-sub-sums c = added-empty (c .before .before .before .before .loop .inv) (omega arith) (told (c .before)) (c .if2 .left)
+sub-sums c = added-empty (c .before .before .before .before .loop .inv) (omega arith) (told (c .before)) (omega arith)
 
 add-sums : tie.Need-add-sums Inv-loop μ-loop
 add-sums c =
     let turn = c .before .before .before .before in
-    omega (arith, added-fits (turn .loop .inv) (omega arith) (told (c .before)) (c .if2 .left) (turn .before .assemblies-of .ensures .counted))
+    omega (arith, added-fits (turn .loop .inv) (omega arith) (told (c .before)) (omega arith) (turn .before .assemblies-of .ensures .counted))
 
 add-a : tie.Need-add-a Inv-loop μ-loop
 add-a c = search needs
@@ -74,7 +74,7 @@ loop-less : tie.Need-loop-less Inv-loop μ-loop
 loop-less c = search needs
 
 loop-again : tie.Need-loop-again Inv-loop μ-loop
-loop-again c = added-more (c .before .before .before .before .loop .inv) (omega arith) (told (c .before)) (c .if2 .left)
+loop-again c = added-more (c .before .before .before .before .loop .inv) (omega arith) (told (c .before)) (omega arith)
 
 returns-3 : tie.Need-returns-3 Inv-loop μ-loop
 returns-3 c =
