@@ -1,7 +1,7 @@
 // What comes back: a number and a count, and the numbers of the refusals.
 
-// 0 and a count, or the number of a refusal and 0. The count is of the items written, or of the sets where sets are written, or for the table
-// check of the basis rings.
+// 0 and a count, or the number of a refusal and 0. The count is of the items written, in each list where there are two, or of the sets where
+// sets are written, or for the table check of the basis rings.
 #[repr(C)]
 pub struct Answer {
     pub number: u8,
@@ -29,5 +29,8 @@ pub const TWICE: u8 = 6;
 // Eleven or more basis rings in one assembly.
 pub const TANGLED: u8 = 7;
 
-// The answer has more items than the lent list.
+// The answer has more items than a lent list.
 pub const ROOM: u8 = 8;
+
+// The set is no ring of the table.
+pub const NOTRING: u8 = 9;

@@ -1,4 +1,4 @@
-// The limits of a table, and how long lists are that hold a set for each bond.
+// The limits of a table, and how long lists are that hold a set for each bond or for each atom.
 use sets::WORDS;
 
 // The most atoms that a table has.
@@ -15,3 +15,6 @@ pub const MAX_ASSEMBLY: usize = 10;
 
 // The words of a list that has a set for each bond: no table has more basis rings.
 pub const BASIS_WORDS: usize = MAX_BONDS * WORDS;
+
+// The words of a list that has a set for each atom.
+pub const ATOM_WORDS: usize = MAX_ATOMS * WORDS;

@@ -3,9 +3,8 @@ use super::climb::apart;
 use super::climb::climb_from;
 use super::climb::join;
 use super::climb::settle;
+use answers::ATOM_WORDS;
 use answers::BASIS_WORDS;
-use answers::MAX_ATOMS;
-use sets::WORDS;
 use table::ends_of;
 use table::refusal_of;
 ghost use Rattle.definitions.specs.Table.{table};
@@ -32,7 +31,7 @@ pub fn basis_of(atoms: u64, bonds: &[u8]) -> Basis
         };
     }
     let mut lower = apart(atoms as usize);
-    let mut ways = [0u64; MAX_ATOMS * WORDS];
+    let mut ways = [0u64; ATOM_WORDS];
     let mut rings = [0u64; BASIS_WORDS];
     let mut count: usize = 0;
     let mut k: usize = 0;

@@ -1,8 +1,8 @@
 // The fragments of the bonds tried so far. Each atom leads to itself or to a lower atom of its fragment, at last to the first of all,
 // and has the set of bonds of a way there: in a sum of ways the bonds gone over twice fall out.
+use answers::ATOM_WORDS;
 use answers::MAX_ATOMS;
 use sets::BondSet;
-use sets::WORDS;
 ghost use mathlib.Core.Path.{_≡_};
 ghost use Prim.Native.Nat.{ℕ, _≤_, _<_, min, max};
 ghost use lib.ListN.{getD, set};
@@ -32,11 +32,7 @@ pub(crate) fn apart(atoms: usize) -> [usize; MAX_ATOMS]
 }
 
 // From an atom to the first atom of its fragment.
-pub(crate) fn climb_from(
-    lower: &[usize; MAX_ATOMS],
-    ways: &[u64; MAX_ATOMS * WORDS],
-    atom: usize,
-) -> Climb
+pub(crate) fn climb_from(lower: &[usize; MAX_ATOMS], ways: &[u64; ATOM_WORDS], atom: usize) -> Climb
     requires { ⌜ Falling (now lower) × (atom < maxAtoms) ⌝ }
     ensures { λ r. ⌜ Climbs (now (lower .entry)) (setsIn (now (ways .entry))) atom (r .atom) (bits (r .bonds)) ⌝ }
 {
@@ -52,7 +48,7 @@ pub(crate) fn climb_from(
 // An atom leads straight to where the climb from it came, so that the next climb from there is short.
 pub(crate) fn settle(
     lower: &mut [usize; MAX_ATOMS],
-    ways: &mut [u64; MAX_ATOMS * WORDS],
+    ways: &mut [u64; ATOM_WORDS],
     atom: usize,
     climb: Climb,
 )
@@ -66,7 +62,7 @@ pub(crate) fn settle(
 // Two fragments made one, given by their first atoms: the larger leads to the smaller by these bonds.
 pub(crate) fn join(
     lower: &mut [usize; MAX_ATOMS],
-    ways: &mut [u64; MAX_ATOMS * WORDS],
+    ways: &mut [u64; ATOM_WORDS],
     a: usize,
     b: usize,
     bonds: BondSet,

@@ -39,7 +39,7 @@ with-before s k j h ne = ⊎-elim (λ e. e) (λ e. absurd (ne (sym e))) (with-ot
 -- ---- the set of the bonds of a path
 
 -- it is a set of bonds
-path-within : {M : Table} {p : ℕ → Bool} {a b s : ℕ} → Path M p a b s → s < 2 ^ bonds M
+pub path-within : {M : Table} {p : ℕ → Bool} {a b s : ℕ} → Path M p a b s → s < 2 ^ bonds M
 path-within {M} {s = s} r = below s (bonds M) (λ j l. not-passed (has s j) (λ h. lt-irrefl j (lt-of-lt-of-le (path-bonds r j h .0) l)))
 
 module _ {M : Table} (valid : Valid M) where

@@ -10,6 +10,7 @@
 --     Linking     linked basis rings, and the numbering of assemblies
 --     Sweeping    each sweep of the reduced basis changes nothing or lowers the total size
 --     Starred     the starred examples, as one list
+--     Walked      walks, and lists that are none, by example
 --     Printed     what the program prints, by example
 pub mod Tests
 pub mod Lists
@@ -22,4 +23,5 @@ pub mod Paths
 pub mod Linking
 pub mod Sweeping
 pub mod Starred
+pub mod Walked
 pub mod Printed

@@ -13,12 +13,14 @@ use lib.ListN.{length, getD}
 use lib.Dec.{leb, ltb, eqb, lit<}
 use borrow.Author.Tests.{leb-true, leb-false, eqb-true, eqb-false, not-true, not-false}
 use Rattle.definitions.specs.Search.{Each}
-use Rattle.definitions.specs.Table.{Table, bonds, tail, head, maxAtoms, maxBonds, alike?, seenBefore?, tableTests, firstOf, refusal, ODD, ATOMS, BONDS, TANGLED, ROOM}
+use Rattle.definitions.specs.Table.{Table, bonds, tail, head, maxAtoms, maxBonds, alike?, seenBefore?, tableTests, firstOf, refusal, ODD, ATOMS, BONDS, TANGLED, ROOM, NOTRING}
+use Rattle.definitions.specs.Ring.{Ring, ring?}
 use Rattle.definitions.specs.Basis.{basisRings}
 use Rattle.definitions.specs.Assembly.{assemblyCount, ringsIn, maxAssembly, tangled?}
-use Rattle.definitions.specs.Answer.{refusalOfRings, outcome}
-use Rattle.definitions.specs.Sentences.{OddBytes, BadCount, ManyBonds, Alike, Tangled, wrongs, wrongsOfRings, orNoRoom, placed, Told}
+use Rattle.definitions.specs.Answer.{refusalOfRings, refusalOfWalk, outcome}
+use Rattle.definitions.specs.Sentences.{OddBytes, BadCount, ManyBonds, Alike, Tangled, NoRing, TooShort, wrongs, wrongsOfRings, wrongsOfWalk, orNoRoom, placed, Told}
 use Rattle.definitions.proofs.Tests.{by, each-more, not-passed, and-both, clashes, Tells, true-of, false-of, tells-leb, tells-ltb, tells-eqb, tells-or, tells-and, tells-as, tells-not, tells-some}
+use Rattle.definitions.proofs.Rings.{ring-test}
 
 -- ---- the first of a list of numbered tests that passes
 
@@ -377,6 +379,44 @@ rings-accepted M =
     let a = alone-none TANGLED (λ e. omega arith) (tangled? M) in
     (λ e. (b .0 e .0, a .0 (b .0 e .1)), λ h. b .1 (h .0, a .1 (h .1)))
 
+-- ---- with 9
+
+-- the test that is tried after those of the table
+abbrev ringing : Table → ℕ → List (ℕ × Bool)
+ringing M s = (NOTRING, not (ring? M s)) ∷ []
+
+-- a table that is refused is so with the same number
+pub walk-kept : (M : Table) (s : ℕ) → refusal M ≢ 0 → refusalOfWalk M s ≡ refusal M
+unfolding refusal refusalOfWalk
+walk-kept M s h = first-append (tableTests M) (ringing M s) h
+
+-- of an accepted one only the set is asked
+pub walk-free : (M : Table) (s : ℕ) → refusal M ≡ 0 → refusalOfWalk M s ≡ cond (ring? M s) 0 NOTRING
+unfolding refusal refusalOfWalk firstOf
+walk-free M s e = append-first (tableTests M) (ringing M s) (numbered M) e ∙ turned (ring? M s)
+  where
+    turned : (b : Bool) → cond (not b) NOTRING 0 ≡ cond b 0 NOTRING
+    turned true = refl
+    turned false = refl
+
+-- refusalOfWalk gives 0 exactly where the table is accepted and the set is a ring
+pub walk-accepted : (M : Table) (s : ℕ) → (refusalOfWalk M s ≡ 0) ↔ ((refusal M ≡ 0) × Ring M s)
+unfolding refusal refusalOfWalk
+walk-accepted M s =
+    let b = both-none (tableTests M) (ringing M s) (numbered M) in
+    let a = alone-none NOTRING (λ e. omega arith) (not (ring? M s)) in
+    (λ e. (b .0 e .0, ring-test M s .0 (not-false _ (a .0 (b .0 e .1)))), λ h. b .1 (h .0, a .1 (rw (ring-test M s .1 (h .1)))))
+
+-- and 9 exactly where the table is accepted and the set is none
+pub walk-refused : (M : Table) (s : ℕ) → (refusalOfWalk M s ≡ NOTRING) ↔ ((refusal M ≡ 0) × NoRing M s)
+unfolding refusal distinct? absent?
+walk-refused M s = (
+  λ e. by (eqb (refusal M) 0)
+      (λ t. let z = eqb-true (refusal M) 0 t in (z, λ r. absurd (omega (arith, e, walk-accepted M s .1 (z, r)))))
+      (λ t. let n = eqb-false (refusal M) 0 t in absurd (first-other NOTRING (tableTests M) (λ q. omega arith) refl (sym (walk-kept M s n) ∙ e))),
+  λ h. walk-free M s (h .0) ∙ rw (not-passed (ring? M s) (λ t. h .1 (ring-test M s .0 t))),
+)
+
 -- ---- each number as it is told
 
 -- sentences tell one number only
@@ -406,6 +446,13 @@ pub rings-told : (M : Table) → Told (wrongsOfRings M) (refusalOfRings M)
 unfolding refusalOfRings distinct? absent?
 rings-told M = told-first (tells-of-rings M) refl
 
+tells-of-walk : (M : Table) (s : ℕ) → Tell (tableTests M ++ ringing M s) (wrongsOfWalk M s) (rights M ++ (Ring M s ∷ []))
+tells-of-walk M s = tell-last NOTRING (tells M) (record {
+  yes-says = λ e r. clashes (ring-test M s .1 r) (not-true _ e);
+  no-says = λ e. ring-test M s .0 (not-false _ e);
+  clash = λ p q. p q;
+})
+
 -- the number of an outcome is that of the first test that passes, if the test for room comes last
 module _ {A : Type 0} (room : Bool) (n : ℕ) (given lent : A) where
   number-refused : (c : ℕ) → c ≢ 0 → c ≡ outcome c room n given lent .number
@@ -424,24 +471,42 @@ module _ {A : Type 0} (room : Bool) (n : ℕ) (given lent : A) where
       (λ z q. q ∙ rw z number-by-room)
       (λ z q. q ∙ number-refused (firstOf ts) z)
 
--- there is too little room exactly where the test for room fails
-tells-room : (m n : ℕ) → Tells (not (leb m n)) (n < m) (m ≤ n)
-tells-room m n =
-    record { yes-says = λ e. leb-false m n (not-true _ e); no-says = λ e. leb-true m n (not-false _ e); clash = λ p q. omega arith }
+-- there is too little room in a list exactly where the test for room fails
+pub tells-room : (wanted lent : List ℕ) → Tells (not (leb (length wanted) (length lent))) (TooShort wanted lent) (length wanted ≤ length lent)
+tells-room wanted lent = record {
+  yes-says = λ e. leb-false (length wanted) (length lent) (not-true _ e);
+  no-says = λ e. leb-true (length wanted) (length lent) (not-false _ e);
+  clash = λ p q. omega arith;
+}
 
-module _ (M : Table) (wanted lent : List ℕ) (n : ℕ) (given : List ℕ) where
-  -- the number of what is written where the table may be refused
-  pub table-room-told :
-      Told (orNoRoom (wrongs M) wanted lent) (outcome (refusal M) (leb (length wanted) (length lent)) n given lent .number)
+-- and in one of two lists where that for both fails
+pub tells-rooms : (wanted wanted′ lent lent′ : List ℕ)
+    → Tells (not (leb (length wanted) (length lent) && leb (length wanted′) (length lent′))) (TooShort wanted lent ⊎ TooShort wanted′ lent′)
+    ((length wanted ≤ length lent) × (length wanted′ ≤ length lent′))
+tells-rooms wanted wanted′ lent lent′ =
+    rw (not-and (leb (length wanted) (length lent)) (leb (length wanted′) (length lent′))) at (tells-or (tells-room wanted lent) (tells-room wanted′ lent′))
+  where
+    not-and : (a b : Bool) → not a || not b ≡ not (a && b)
+    not-and true b = refl
+    not-and false b = refl
+
+-- the number of what is written, where something may be too short
+module _ {A : Type 0} (room : Bool) {short fits : Type 0} (t : Tells (not room) short fits) (n : ℕ) (given lent : A) where
+  room-told : {ts : List (ℕ × Bool)} {Ps : List (ℕ × Type 0)} {Ns : List (Type 0)} → Tell ts Ps Ns → distinct? (numbers ts) ≡ true
+      → distinct? (numbers (ts ++ ((ROOM, not room) ∷ []))) ≡ true → Told (orNoRoom Ps short) (outcome (firstOf ts) room n given lent .number)
+  room-told {ts} s d e = subst (Told _) (outcome-number room n given lent ts d) (told-first (tell-last ROOM s t) e)
+
+  -- where the table may be refused
+  pub table-room-told : (M : Table) → Told (orNoRoom (wrongs M) short) (outcome (refusal M) room n given lent .number)
   unfolding refusal distinct? absent?
-  table-room-told =
-      subst (Told _) (outcome-number _ n given lent (tableTests M) refl)
-      (told-first (tell-last ROOM (tells M) (tells-room (length wanted) (length lent))) refl)
+  table-room-told M = room-told (tells M) refl refl
 
   -- and where all rings are needed
-  pub rings-room-told :
-      Told (orNoRoom (wrongsOfRings M) wanted lent) (outcome (refusalOfRings M) (leb (length wanted) (length lent)) n given lent .number)
+  pub rings-room-told : (M : Table) → Told (orNoRoom (wrongsOfRings M) short) (outcome (refusalOfRings M) room n given lent .number)
   unfolding refusalOfRings distinct? absent?
-  rings-room-told =
-      subst (Told _) (outcome-number _ n given lent (tableTests M ++ tangling M) refl)
-      (told-first (tell-last ROOM (tells-of-rings M) (tells-room (length wanted) (length lent))) refl)
+  rings-room-told M = room-told (tells-of-rings M) refl refl
+
+  -- and where a set is walked round
+  pub walk-room-told : (M : Table) (s : ℕ) → Told (orNoRoom (wrongsOfWalk M s) short) (outcome (refusalOfWalk M s) room n given lent .number)
+  unfolding refusalOfWalk distinct? absent?
+  walk-room-told M s = room-told (tells-of-walk M s) refl refl

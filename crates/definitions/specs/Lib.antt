@@ -8,6 +8,7 @@ pub mod Assembly
 pub mod AllRings
 pub mod Smallest
 pub mod Reduced
+pub mod Walk
 pub mod Label
 pub mod Answer
 pub mod Sentences

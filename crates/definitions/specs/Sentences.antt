@@ -1,11 +1,13 @@
--- The refusals as sentences: what each says of a table, in which order they are tried, and which number is then told. Assumes nothing.
+-- The refusals as sentences: what each says of a table, of a set or of what is lent, in which order they are tried, and which number is then
+-- told. Assumes nothing.
 use mathlib.Core.Path.{_≡_}
 use mathlib.Core.Logic.{_↔_, _⊎_}
 use mathlib.Core.List.{List, [], _∷_, _++_}
 use Prim.Native.Nat.{ℕ, _%_, _<_, _≤_}
 use lib.ListN.{length, getD}
 use Rattle.definitions.specs.Search.{Each, Some}
-use Rattle.definitions.specs.Table.{Table, bonds, tail, head, maxAtoms, maxBonds, ODD, ATOMS, BONDS, END, SELF, TWICE, TANGLED, ROOM}
+use Rattle.definitions.specs.Table.{Table, bonds, tail, head, maxAtoms, maxBonds, ODD, ATOMS, BONDS, END, SELF, TWICE, TANGLED, ROOM, NOTRING}
+use Rattle.definitions.specs.Ring.{Ring}
 use Rattle.definitions.specs.Basis.{basisRings}
 use Rattle.definitions.specs.Assembly.{assemblyCount, ringsIn, maxAssembly}
 
@@ -41,6 +43,14 @@ BondedTwice M = Some (bonds M) (λ k. Some k (Alike M k))
 abbrev pub Tangled : Table → Type 0
 Tangled M = Some (assemblyCount (basisRings M)) (λ a. maxAssembly < length (ringsIn (basisRings M) a))
 
+-- 9 NOTRING: a set is no ring of the table
+abbrev pub NoRing : Table → ℕ → Type 0
+NoRing M s = Ring M s → ⊥
+
+-- 8 ROOM: a lent list is shorter than what is wanted in it
+abbrev pub TooShort : List ℕ → List ℕ → Type 0
+TooShort wanted lent = length lent < length wanted
+
 -- what may be wrong with a table: each number with its sentence, the one that is tried first in front
 abbrev pub wrongs : Table → List (ℕ × Type 0)
 wrongs M =
@@ -56,9 +66,13 @@ wrongs M =
 abbrev pub wrongsOfRings : Table → List (ℕ × Type 0)
 wrongsOfRings M = wrongs M ++ ((TANGLED, Tangled M) ∷ [])
 
--- what may be wrong where these items are to be written into this list, 8 last: the list is shorter than they are
-abbrev pub orNoRoom : List (ℕ × Type 0) → List ℕ → List ℕ → List (ℕ × Type 0)
-orNoRoom wrong wanted lent = wrong ++ ((ROOM, length lent < length wanted) ∷ [])
+-- and where a set is to be walked round, 9 after those of the table
+abbrev pub wrongsOfWalk : Table → ℕ → List (ℕ × Type 0)
+wrongsOfWalk M s = wrongs M ++ ((NOTRING, NoRing M s) ∷ [])
+
+-- what may be wrong where something is to be written, 8 last, with what is then too short
+abbrev pub orNoRoom : List (ℕ × Type 0) → Type 0 → List (ℕ × Type 0)
+orNoRoom wrong short = wrong ++ ((ROOM, short) ∷ [])
 
 -- the number and the sentence at place i
 abbrev pub placed : List (ℕ × Type 0) → ℕ → ℕ × Type 0

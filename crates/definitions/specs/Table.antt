@@ -95,6 +95,9 @@ TANGLED = 7
 abbrev pub ROOM : ℕ
 ROOM = 8
 
+abbrev pub NOTRING : ℕ
+NOTRING = 9
+
 -- each number with its test, the one that is tried first in front; a test of bonds looks at all of them
 abbrev pub tableTests : Table → List (ℕ × Bool)
 tableTests M =

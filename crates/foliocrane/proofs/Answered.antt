@@ -1,12 +1,12 @@
 -- Demand 1: every exported function asks for nothing and answers every call as `Answered` says, by its own postcondition. Assumes nothing.
 use mathlib.Core.Path.{_≡_, refl, sym, ap, ap₂, subst, _∙_}
-use mathlib.Core.Logic.{_≢_}
-use mathlib.Core.Bool.{Bool, true, false}
+use mathlib.Core.Logic.{_≢_, _⊎_}
+use mathlib.Core.Bool.{Bool, true, false, _&&_}
 use mathlib.Core.List.{List, [], _++_}
 use Prim.Native.Nat.{ℕ, zero, suc}
 use native.Mathlib.Omega.{arith}
 use borrow.Author.Tests.{eqb-true, eqb-false}
-use lib.Dec.{eqb}
+use lib.Dec.{eqb, leb}
 use lib.ListN.{length, take, drop, take-append-drop}
 use lib.Seq.{take-append-seam, drop-append-seam}
 use Rattle.sets.specs.Lists.{inWords}
@@ -16,19 +16,22 @@ use Rattle.definitions.specs.Assembly.{assemblies}
 use Rattle.definitions.specs.AllRings.{allRings}
 use Rattle.definitions.specs.Smallest.{smallestBasis}
 use Rattle.definitions.specs.Reduced.{reducedBasis}
+use Rattle.definitions.specs.Walk.{walkAtoms, walkBonds}
 use Rattle.definitions.specs.Label.{labelOf, sidecarOf}
-use Rattle.definitions.specs.Answer.{Outcome, outcome, over, counted, written, writtenSets, refusalOfRings}
-use Rattle.definitions.specs.Sentences.{wrongs, wrongsOfRings, Told}
+use Rattle.definitions.specs.Answer.{Outcome, outcomeOf, outcome, over, counted, written, writtenSets, writtenBoth, refusalOfRings, refusalOfWalk}
+use Rattle.definitions.specs.Sentences.{TooShort, wrongs, wrongsOfRings, wrongsOfWalk, orNoRoom, Told}
+use Rattle.walking.proofs.Steps.{atoms-length}
 use Rattle.definitions.proofs.Tests.{by}
-use Rattle.definitions.proofs.Refusals.{told-once, table-told, table-room-told, rings-room-told}
-use Rattle.foliocrane.specs.Call.{Call, Checked, Checked.checked, Called, Called.called, tableIn, answerOf}
-use Rattle.foliocrane.specs.Answered.{Answered, AnsweredBytes, AnsweredSets, AsksNothing}
+use Rattle.definitions.proofs.Refusals.{told-once, table-told, tells-room, tells-rooms, table-room-told, rings-room-told, walk-room-told}
+use Rattle.foliocrane.specs.Call.{Call, Checked, Checked.checked, Called, Called.called, CalledBoth, CalledBoth.called-both, tableIn, answerOf}
+use Rattle.foliocrane.specs.Answered.{Answered, AnsweredBytes, AnsweredSets, AnsweredWalk, AsksNothing}
 use Rattle.foliocrane.proofs.foliocrane_check.Reads as check
 use Rattle.foliocrane.proofs.foliocrane_basis_rings.Reads as basis
 use Rattle.foliocrane.proofs.foliocrane_assemblies.Reads as assembly
 use Rattle.foliocrane.proofs.foliocrane_all_rings.Reads as rings
 use Rattle.foliocrane.proofs.foliocrane_smallest_basis.Reads as smallest
 use Rattle.foliocrane.proofs.foliocrane_reduced_basis.Reads as reduced
+use Rattle.foliocrane.proofs.foliocrane_ring_walk.Reads as walk
 use Rattle.foliocrane.proofs.foliocrane_label.Reads as label
 use Rattle.foliocrane.proofs.foliocrane_sidecar.Reads as sidecar
 use Rattle.foliocrane.proofs.of_size.Reads as lookup
@@ -61,6 +64,14 @@ module _ {A : Type 0} (n : ℕ) (new lent : A) where
   unfolding outcome
   outcome-roomy zero = refl
   outcome-roomy (suc c) = refl
+
+-- an outcome by a part of what it leaves
+outcome-part : {A B : Type 0} (part : A → B) (c : ℕ) (room : Bool) (n : ℕ) (new lent : A) → let o = outcome c room n new lent in
+    outcomeOf (o .number) (o .count) (part (o .left)) ≡ outcome c room n (part new) (part lent)
+unfolding outcome
+outcome-part part zero true n new lent = refl
+outcome-part part zero false n new lent = refl
+outcome-part part (suc c) room n new lent = refl
 
 -- a call ends with this outcome, and its bonds are as they were
 abbrev pub EndsWith : Call → Outcome (List ℕ) → Type 0
@@ -118,21 +129,47 @@ module _ (c : Call) where
 
   pub bytes-answered : (bytes : Table → List ℕ) → EndsWith c (written (refusal M) (bytes M) (c .lent)) → AnsweredBytes wrongs bytes c
   unfolding written
-  bytes-answered bytes h = answered _ _ (bytes M) c _ _ h (table-room-told M (bytes M) (c .lent) _ _)
+  bytes-answered bytes h = answered _ _ (bytes M) c _ _ h (table-room-told _ (tells-room (bytes M) (c .lent)) _ _ _ M)
 
   pub bytes-of-rings-answered : (bytes : Table → List ℕ) → EndsWith c (written (refusalOfRings M) (bytes M) (c .lent))
       → AnsweredBytes wrongsOfRings bytes c
   unfolding written
-  bytes-of-rings-answered bytes h = answered _ _ (bytes M) c _ _ h (rings-room-told M (bytes M) (c .lent) _ _)
+  bytes-of-rings-answered bytes h = answered _ _ (bytes M) c _ _ h (rings-room-told _ (tells-room (bytes M) (c .lent)) _ _ _ M)
 
   pub sets-answered : (sets : Table → List ℕ) → EndsWith c (writtenSets (refusal M) (sets M) (c .lent)) → AnsweredSets wrongs sets c
   unfolding writtenSets
-  sets-answered sets h = answered _ _ (inWords (sets M)) c _ _ h (table-room-told M (inWords (sets M)) (c .lent) _ _)
+  sets-answered sets h = answered _ _ (inWords (sets M)) c _ _ h (table-room-told _ (tells-room (inWords (sets M)) (c .lent)) _ _ _ M)
 
   pub sets-of-rings-answered : (sets : Table → List ℕ) → EndsWith c (writtenSets (refusalOfRings M) (sets M) (c .lent))
       → AnsweredSets wrongsOfRings sets c
   unfolding writtenSets
-  sets-of-rings-answered sets h = answered _ _ (inWords (sets M)) c _ _ h (rings-room-told M (inWords (sets M)) (c .lent) _ _)
+  sets-of-rings-answered sets h = answered _ _ (inWords (sets M)) c _ _ h (rings-room-told _ (tells-room (inWords (sets M)) (c .lent)) _ _ _ M)
+
+-- two calls that end as one does which writes the atoms and the bonds of a ring are answered
+module _ (s : ℕ) (c d : Call) where
+  abbrev visited : List ℕ
+  visited = walkAtoms (tableIn c) s
+
+  abbrev crossed : List ℕ
+  crossed = walkBonds (tableIn c) s
+
+  abbrev both : Outcome (List ℕ × List ℕ)
+  both = writtenBoth (refusalOfWalk (tableIn c) s) (visited, crossed) (c .lent, d .lent)
+
+  walk-answered : EndsWith c (outcomeOf (both .number) (both .count) (both .left .0)) → EndsWith d (outcomeOf (both .number) (both .count) (both .left .1))
+      → AnsweredWalk s c d
+  unfolding writtenBoth
+  walk-answered (e, read) (f, read′) = rw (← atoms-length (tableIn c) s) (
+    answered _ _ visited c _ room (e ∙ outcome-part (λ p. p .0) _ room _ _ _, read) (told _ _),
+    answered _ _ crossed d _ room (f ∙ outcome-part (λ p. p .1) _ room _ _ _, read′) (told _ _),
+  )
+    where
+      room : Bool
+      room = leb (length visited) (length (c .lent)) && leb (length crossed) (length (d .lent))
+
+      told : (given lent : List ℕ) → Told (orNoRoom (wrongsOfWalk (tableIn c) s) (TooShort visited (c .lent) ⊎ TooShort crossed (d .lent)))
+          (outcome (refusalOfWalk (tableIn c) s) room (length visited) given lent .number)
+      told given lent = walk-room-told room (tells-rooms visited crossed (c .lent) (d .lent)) (length visited) given lent (tableIn c) s
 
 -- ---- the exported functions, each by its own postcondition
 
@@ -158,6 +195,13 @@ smallest-basis-answers c (called h) = sets-of-rings-answered c smallestBasis h
 pub reduced-basis-answers : (c : Call) → Called reduced.Post c → AnsweredSets wrongs reducedBasis c
 reduced-basis-answers c (called h) = sets-answered c reducedBasis h
 
+-- the walk round a ring, for the atoms and for the bonds
+pub ring-walk-answers : (s : ℕ) (c d : Call) → CalledBoth walk.Post s c d → AnsweredWalk s c d
+ring-walk-answers s c d (called-both (e, read)) =
+    walk-answered s c d
+    (ap (λ (o : Outcome (List ℕ × List ℕ)). outcomeOf (o .number) (o .count) (o .left .0)) e, read)
+    (ap (λ (o : Outcome (List ℕ × List ℕ)). outcomeOf (o .number) (o .count) (o .left .1)) e, read)
+
 pub label-answers : (c : Call) → Called label.Post c → AnsweredBytes wrongsOfRings labelOf c
 label-answers c (called h) = bytes-of-rings-answered c labelOf h
 
@@ -172,7 +216,8 @@ pub nothing-is-asked :
     × AsksNothing rings.Asked
     × AsksNothing smallest.Asked
     × AsksNothing reduced.Asked
+    × AsksNothing walk.Asked
     × AsksNothing label.Asked
     × AsksNothing sidecar.Asked
     × AsksNothing lookup.Asked
-nothing-is-asked = (λ κs a. tt, λ κs a. tt, λ κs a. tt, λ κs a. tt, λ κs a. tt, λ κs a. tt, λ κs a. tt, λ κs a. tt, λ κs a. tt)
+nothing-is-asked = (λ κs a. tt, λ κs a. tt, λ κs a. tt, λ κs a. tt, λ κs a. tt, λ κs a. tt, λ κs a. tt, λ κs a. tt, λ κs a. tt, λ κs a. tt)

@@ -1,6 +1,6 @@
 -- Demand 2 over calls: what a call has given, if it was not refused, is exactly what the definitions say, by the postcondition of the
 -- function that was called; and what the size lookup hands back. Assumes nothing.
-use mathlib.Core.Path.{_≡_, sym, ap, subst, _∙_}
+use mathlib.Core.Path.{_≡_, refl, sym, ap, subst, _∙_}
 use mathlib.Core.List.{List}
 use Prim.Native.Nat.{ℕ}
 use base.Fml.{Lft}
@@ -38,9 +38,9 @@ module _ (c : Call) (accepted : c .number ≡ 0) where
   unfolding writtenSets
   sets-free r sets h = outcome-free _ _ _ r _ (sym (ap (λ (o : Outcome (List ℕ)). o .number) (h .0)) ∙ accepted)
 
-  -- the bytes that are wanted are given
-  bytes-given : {wrong : List (ℕ × Type 0)} (bytes : List ℕ) → Answered wrong (length bytes) bytes c → bytesGiven c ≡ bytes
-  bytes-given bytes a = ap (λ (n : ℕ). take n (c .left)) (a .given accepted .0) ∙ a .given accepted .1
+  -- the bytes that are wanted are given, if they are counted
+  pub bytes-given : {wrong : List (ℕ × Type 0)} {n : ℕ} (bytes : List ℕ) → n ≡ length bytes → Answered wrong n bytes c → bytesGiven c ≡ bytes
+  bytes-given bytes e a = ap (λ (n : ℕ). take n (c .left)) (a .given accepted .0 ∙ e) ∙ a .given accepted .1
 
   -- and the sets, if they are written whole
   sets-given : {wrong : List (ℕ × Type 0)} (sets : List ℕ) → Answered wrong (length sets) (inWords sets) c → Whole sets → setsGiven c ≡ sets
@@ -63,7 +63,7 @@ pub assemblies-exact : (c : Call) → Called assembly.Post c → c .number ≡ 0
 assemblies-exact c (called h) z =
     let M = tableIn c in
     subst (λ (l : List ℕ). Exactly M (basisRings M) l (allRings M) (smallestBasis M))
-    (sym (bytes-given c z (assemblies M) (bytes-answered c assemblies h)))
+    (sym (bytes-given c z (assemblies M) refl (bytes-answered c assemblies h)))
     (answers-are-exact M (bytes-free c z (refusal M) (assemblies M) h))
 
 pub all-rings-exact : (c : Call) → Called rings.Post c → c .number ≡ 0

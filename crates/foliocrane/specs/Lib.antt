@@ -2,8 +2,10 @@
 --     Call         a call of an exported function
 --     Answered     demand 1
 --     Exactly      demand 2
+--     WalksRound   demand 2 for the walk round a ring
 --     SameLabel    demand 3
 pub mod Call
 pub mod Answered
 pub mod Exactly
+pub mod WalksRound
 pub mod SameLabel

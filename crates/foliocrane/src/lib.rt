@@ -1,8 +1,9 @@
 // The library's face: every entry in one place, for Rattle programs and, exported, for C and Rust. Each takes any table, an atom count and
-// two bytes a bond, and has the contract of the entry that it calls: number, count and every element of the lent list, for every input, and
+// two bytes a bond, and has the contract of the entry that it calls: number, count and every element of what is lent, for every input, and
 // what is only read is as it was. include/foliocrane.h declares them for C. What is demanded of a call stands in specs/, and proofs/ has it of
 // these contracts.
 use answers::Answer;
+use sets::BondSet;
 ghost use mathlib.Core.Path.{_≡_};
 ghost use mathlib.Core.List.{[]};
 ghost use lib.ListN.{length};
@@ -13,8 +14,9 @@ ghost use Rattle.definitions.specs.Assembly.{assemblies};
 ghost use Rattle.definitions.specs.AllRings.{allRings};
 ghost use Rattle.definitions.specs.Smallest.{smallestBasis};
 ghost use Rattle.definitions.specs.Reduced.{reducedBasis};
+ghost use Rattle.definitions.specs.Walk.{walkAtoms, walkBonds};
 ghost use Rattle.definitions.specs.Label.{labelOf, sidecarOf};
-ghost use Rattle.definitions.specs.Answer.{outcomeOf, counted, written, writtenSets, refusalOfRings};
+ghost use Rattle.definitions.specs.Answer.{outcomeOf, counted, written, writtenSets, writtenBoth, refusalOfRings, refusalOfWalk};
 
 // The table check: 0 and the number of basis rings, or a refusal.
 #[no_mangle]
@@ -68,6 +70,23 @@ pub extern "C" fn foliocrane_reduced_basis(atoms: u64, bonds: &[u8], out: &mut [
     ensures read { λ r. ⌜ now (bonds .exit) ≡ now (bonds .entry) ⌝ }
 {
     reduced::reduced_basis(atoms, bonds, out)
+}
+
+// A ring in walking order, its atoms and its bonds, a byte each: from the lower atom of its lowest bond over that bond and on until one is
+// back. The ring is given by its word.
+#[no_mangle]
+pub extern "C" fn foliocrane_ring_walk(
+    atoms: u64,
+    bonds: &[u8],
+    set: u64,
+    ring_atoms: &mut [u8],
+    ring_bonds: &mut [u8],
+) -> Answer
+    ensures answer { λ r. ⌜ outcomeOf (r .number) (r .count) (now («ring_atoms» .exit), now («ring_bonds» .exit)) ≡ writtenBoth (refusalOfWalk (tableOf atoms (now (bonds .entry))) set) (walkAtoms (tableOf atoms (now (bonds .entry))) set, walkBonds (tableOf atoms (now (bonds .entry))) set) (now («ring_atoms» .entry), now («ring_bonds» .entry)) ⌝ }
+    ensures read { λ r. ⌜ now (bonds .exit) ≡ now (bonds .entry) ⌝ }
+{
+    let ring = BondSet::of_words([set]);
+    walk::ring_walk(atoms, bonds, ring, ring_atoms, ring_bonds)
 }
 
 // The label.

@@ -6,7 +6,7 @@ use native.Mathlib.Nat.{mod-lt}
 use native.Mathlib.Omega.{arith}
 use borrow.Author.Tests.{eqb-true, eq-eqb}
 use lib.Arith.{bin-ind, digits-mod, digits-div}
-use lib.Bits.{bitAnd, bitOr, bitXor, differ, and-comm, and-step, xor-step, xor-self, xor-zero-r, or-disjoint, xor-disjoint, or-add-and}
+use lib.Bits.{bitAnd, bitOr, bitXor, differ, and-step, xor-step, xor-self, xor-zero-r, or-disjoint, xor-disjoint}
 use lib.Count.{ones, ones-step, ones-cat}
 use lib.Dec.{eqb, lit<}
 use lib.Pow.{pow-pos}
@@ -86,10 +86,7 @@ sub-same s t h e = xor-zero s t (size-none (bitXor s t) (omega (arith, size-rest
 
 -- ---- one member more, one less
 
--- a set shares k's digit with k alone where k is a member, and nothing where not
-pub and-pow : (s k : ℕ) → has s k ≡ true → bitAnd s (2 ^ k) ≡ 2 ^ k
-and-pow s k h = and-comm s (2 ^ k) ∙ sub-and (2 ^ k) s (λ j e. ap (has s) (sym (eqb-true k j (sym (has-pow k j) ∙ e))) ∙ h)
-
+-- a set shares nothing with k's digit where k is no member
 pub and-pow-none : (s k : ℕ) → has s k ≡ false → bitAnd s (2 ^ k) ≡ 0
 and-pow-none s k h = empty _ (λ j. has-and s (2 ^ k) j ∙ ap (λ (x : Bool). has s j && x) (has-pow k j) ∙ go j (eqb k j) refl)
   where
@@ -100,10 +97,6 @@ and-pow-none s k h = empty _ (λ j. has-and s (2 ^ k) j ∙ ap (λ (x : Bool). h
 pub size-with : (s k : ℕ) → has s k ≡ false → size (with s k) ≡ size s + 1
 unfolding with
 size-with s k h = omega (arith, size-disjoint s (2 ^ k) (and-pow-none s k h), size-pow k)
-
-pub with-same : (s k : ℕ) → has s k ≡ true → with s k ≡ s
-unfolding with
-with-same s k h = omega (arith, or-add-and s (2 ^ k), and-pow s k h)
 
 pub without-same : (s k : ℕ) → has s k ≡ false → without s k ≡ s
 unfolding without

@@ -9,8 +9,7 @@ use lib.ListN.{length, getD}
 use lib.Dec.{ltb}
 use borrow.Author.Tests.{eqb-false, ltb-true, lt-ltb}
 use Rattle.sets.specs.Bits.{has, meet}
-use Rattle.sets.specs.Bond.{bits, noBonds}
-use Rattle.sets.specs.declared.bond.BondSet.{BondSet}
+use Rattle.sets.specs.Lists.{setsIn}
 use Rattle.sets.proofs.Members.{common, meet-of}
 use Rattle.definitions.specs.Search.{setOf}
 use Rattle.definitions.specs.Table.{Table, tail, head, meets?, selfBond?, alike?, seenBefore?}
@@ -19,7 +18,8 @@ use Rattle.definitions.proofs.Tests.{same-test, and-both, both-and, tells-eqb, 
 use Rattle.definitions.proofs.Lists.{has-setOf}
 use Rattle.definitions.proofs.Refusals.{tells-alike}
 use Rattle.table.specs.Ends.{bondsAlone}
-use Rattle.table.proofs.Meeting.{EndAt, Rowed}
+use Rattle.table.specs.Rows.{Rowed}
+use Rattle.table.proofs.Fitting.{EndAt}
 
 -- the row of atom a by the bonds below k
 abbrev rowBelow : Table → ℕ → ℕ → ℕ
@@ -68,8 +68,9 @@ shared-seen M k no-self = same-test _ _ to from
         let m = alike-meets M k (s .0) (tells-alike M k (s .0) .yes-says (s .2)) in
         meet-of _ _ (s .0) (meets-row M k (tail M k) (s .0) (s .1) (m .0)) (meets-row M k (head M k) (s .0) (s .1) (m .1))
 
--- r says whether the rows of a and b, the atoms of bond k, share a bond
-pub rowed-seen : {bs : List ℕ} {rows : List BondSet} {k a b : ℕ} {r : Bool} → Rowed bs rows k → ((j : ℕ) → j < length bs / 2 → selfBond? (bondsAlone bs) j ≡ false)
+-- r says whether the rows s and t of a and b, the atoms of bond k, share a bond
+pub rowed-seen : {bs rows : List ℕ} {k a b s t : ℕ} {r : Bool} → Rowed bs k rows → ((j : ℕ) → j < length bs / 2 → selfBond? (bondsAlone bs) j ≡ false)
     → k < length bs / 2 → EndAt a (tail (bondsAlone bs) k) → EndAt b (head (bondsAlone bs) k)
-    → r ≡ meet (bits (getD rows a noBonds)) (bits (getD rows b noBonds)) → r ≡ seenBefore? (bondsAlone bs) k
-rowed-seen {bs} {rows} {k} {a} {b} t no-self l ea eb er = er ∙ rw (t .row a (ea .1), t .row b (eb .1), ea .0, eb .0) (shared-seen (bondsAlone bs) k (no-self k l))
+    → s ≡ getD (setsIn rows) a 0 → t ≡ getD (setsIn rows) b 0 → r ≡ meet s t → r ≡ seenBefore? (bondsAlone bs) k
+rowed-seen {bs} {k = k} {a} {b} h no-self l ea eb es et er =
+    er ∙ rw (es, et, h .row a (ea .1), h .row b (eb .1), ea .0, eb .0) (shared-seen (bondsAlone bs) k (no-self k l))

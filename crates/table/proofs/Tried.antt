@@ -10,7 +10,7 @@ use Rattle.definitions.specs.Table.{Table, bonds, selfBond?, tableTests, refusa
 use Rattle.definitions.proofs.Tests.{each-more, none-at}
 use Rattle.definitions.proofs.Refusals.{EvenBytes, GoodCount, FewBonds, testAt, first-at, first-none, tried-exactly}
 use Rattle.table.specs.Ends.{Fitting}
-use Rattle.table.proofs.Meeting.{inside-fitting}
+use Rattle.table.proofs.Fitting.{inside-fitting}
 
 -- the tests before place i have failed
 pub record Tried (M : Table) (i : ℕ) : Type 0 where

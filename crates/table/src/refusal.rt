@@ -1,5 +1,6 @@
 // The refusals 1 to 6 of a table. A test is through with all bonds before the next number is given.
 use super::ends::ends_of;
+use answers::ATOM_WORDS;
 use answers::MAX_ATOMS;
 use answers::MAX_BONDS;
 use sets::BondSet;
@@ -10,6 +11,7 @@ ghost use lib.ListN.{length};
 ghost use Rattle.definitions.specs.Search.{some?};
 ghost use Rattle.definitions.specs.Table as spec;
 ghost use Rattle.table.specs.Ends.{bondsAlone, Fitting};
+ghost use Rattle.table.specs.Rows.{Rowed, TableTested};
 
 // Has bond k an end that is the atom count or higher?
 fn bad_end(atoms: u64, bonds: &[u8], k: usize) -> bool
@@ -50,31 +52,34 @@ fn wrong_ends(atoms: u64, bonds: &[u8]) -> WrongEnds
     WrongEnds { outside, same }
 }
 
-// Is some pair of atoms bonded twice? A row is the set of the bonds so far that meet an atom; a bond whose two atoms are bonded already
-// finds that bond in the rows of both. No bond joins an atom to itself here.
-fn any_twice(bonds: &[u8]) -> bool
-    requires { ⌜ Fitting (now bonds) × ((k : ℕ) → k < length (now bonds) / 2 → spec.selfBond? (bondsAlone (now bonds)) k ≡ false) ⌝ }
-    ensures { λ r. ⌜ r ≡ some? (length (now (bonds .entry)) / 2) (spec.seenBefore? (bondsAlone (now (bonds .entry)))) ⌝ }
+// Fills the rows, empty so far, bond by bond, and tells whether some pair of atoms is bonded twice: a bond whose two atoms are bonded already
+// finds that bond in the rows of both. No bond joins an atom to itself here. The rows are by all bonds where no pair is.
+fn fill_rows(bonds: &[u8], rows: &mut [u64; ATOM_WORDS]) -> bool
+    requires { ⌜ Fitting (now bonds) × ((k : ℕ) → k < length (now bonds) / 2 → spec.selfBond? (bondsAlone (now bonds)) k ≡ false) × Rowed (now bonds) 0 (now rows) ⌝ }
+    ensures twice { λ r. ⌜ r ≡ some? (length (now (bonds .entry)) / 2) (spec.seenBefore? (bondsAlone (now (bonds .entry)))) ⌝ }
+    ensures filled { λ r. ⌜ (r ≡ false → Rowed (now (bonds .entry)) (length (now (bonds .entry)) / 2) (now (rows .exit))) ⌝ }
 {
-    let mut rows = [BondSet::EMPTY; MAX_ATOMS];
     let mut k: usize = 0;
     while k < bonds.len() / 2 {
         let ends = ends_of(bonds, k);
         let a = ends.tail;
         let b = ends.head;
-        if rows[a].meets(rows[b]) {
+        let first = BondSet::at(rows, a);
+        let other = BondSet::at(rows, b);
+        if first.meets(other) {
             return true;
         }
-        rows[a] = rows[a].with(k);
-        rows[b] = rows[b].with(k);
+        first.with(k).put_at(rows, a);
+        other.with(k).put_at(rows, b);
         k += 1;
     }
     false
 }
 
-// Why a table is refused, and 0 where it is accepted.
-pub fn refusal_of(atoms: u64, bonds: &[u8]) -> u8
-    ensures { λ r. ⌜ r ≡ spec.refusal (spec.table atoms (now (bonds .entry))) ⌝ }
+// Why a table is refused, and 0 where it is accepted; the rows, empty so far, are then by all bonds.
+pub(crate) fn try_table(atoms: u64, bonds: &[u8], rows: &mut [u64; ATOM_WORDS]) -> u8
+    requires { ⌜ Rowed (now bonds) 0 (now rows) ⌝ }
+    ensures { λ r. ⌜ TableTested (spec.table atoms (now (bonds .entry))) r (now (rows .exit)) ⌝ }
 {
     if bonds.len() % 2 == 1 {
         return answers::ODD;
@@ -95,8 +100,16 @@ pub fn refusal_of(atoms: u64, bonds: &[u8]) -> u8
     if ends.same {
         return answers::SELF;
     }
-    if any_twice(bonds) {
+    if fill_rows(bonds, rows) {
         return answers::TWICE;
     }
     0
+}
+
+// Why a table is refused, and 0 where it is accepted.
+pub fn refusal_of(atoms: u64, bonds: &[u8]) -> u8
+    ensures { λ r. ⌜ r ≡ spec.refusal (spec.table atoms (now (bonds .entry))) ⌝ }
+{
+    let mut rows = [0u64; ATOM_WORDS];
+    try_table(atoms, bonds, &mut rows)
 }

@@ -11,7 +11,7 @@ use Rattle.sets.specs.Lists.{setsIn, words}
 use Rattle.sets.proofs.Lists.{sets-blank}
 use Rattle.definitions.specs.Table.{Table, table, tail, head, maxAtoms, maxBonds}
 use Rattle.definitions.proofs.Refusals.{Valid, accepted}
-use Rattle.table.proofs.Meeting.{valid-fitting, EndAt, ends-inside}
+use Rattle.table.proofs.Fitting.{valid-fitting, EndAt, ends-inside}
 use Rattle.basis.proofs.Holding.{basis-refused, basis-accepted}
 use Rattle.basis.proofs.Leading.{climbed-low}
 use Rattle.basis.proofs.Trying.{Tried, Reached, tried-none, climbs-reached, tried-settled, tried-turn, tried-all}

@@ -1,0 +1,2 @@
+-- The definitions that the contracts of this crate cite beside those of `definitions` and `walking`.
+pub mod Going
