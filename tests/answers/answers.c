@@ -1,18 +1,22 @@
 /* Prints what every exported function answers for each table on standard input, and every item that was lent, after the call. A record is
    field 10 (hex) with the atom count in one byte or in eight, field 11 with the bond bytes and, where another room than 64 items is to be
    lent, field 1f with the room in two bytes; a field is a tag, a length in two bytes, and its content. Numbers have the high byte first.
-   tests/walking/protocol.rs has the lines. */
+   A record that goes on with fields 1e asks for walks, and for nothing else: each has a set of bonds in eight bytes, the room for atoms in
+   one and the room for bonds in one. tests/walking/protocol.rs has the lines. */
 #include <foliocrane.h>
 #include <stdio.h>
 
 enum {
     ATOMS_TAG = 0x10,
     BONDS_TAG = 0x11,
+    WALK_TAG = 0x1e,
     ROOM_TAG = 0x1f,
+    WALK_LENGTH = 10,
     MOST_INPUT = 131072, /* no more bytes of the input are read */
     MOST_ROOM = 6548,    /* one word more than all rings of a table can need */
     ROOM_UNSAID = 64,    /* the room that is lent where a record says none */
-    BYTE_LENT = 0xa5     /* byte i is lent as this and i, modulo 256 */
+    BYTE_LENT = 0xa5,    /* byte i is lent as this and i, modulo 256 */
+    BOND_LENT = 0x65     /* and so is byte i for the bonds of a walk */
 };
 
 /* Word i is lent as this and i. */
@@ -29,6 +33,7 @@ struct record {
     uint64_t atoms;
     struct bytes bonds;
     size_t room;
+    struct bytes walks; /* the fields that ask for walks */
 };
 
 /* The number in so many bytes. */
@@ -64,13 +69,24 @@ static int take_room(struct bytes *input, size_t *room) {
     return *room <= MOST_ROOM;
 }
 
+/* Takes the fields that ask for walks; 0 if one is broken. */
+static int take_walks(struct bytes *input, struct bytes *walks) {
+    struct bytes walk;
+    *walks = *input;
+    while (input->length > 0 && input->items[0] == WALK_TAG)
+        if (!take_field(input, WALK_TAG, &walk) || walk.length != WALK_LENGTH)
+            return 0;
+    walks->length -= input->length;
+    return 1;
+}
+
 /* Takes a record off the start of the input; 0 if it is broken. */
 static int take_record(struct bytes *input, struct record *record) {
     struct bytes atoms;
     if (!take_field(input, ATOMS_TAG, &atoms) || (atoms.length != 1 && atoms.length != 8))
         return 0;
     record->atoms = number_in(atoms.items, atoms.length);
-    return take_field(input, BONDS_TAG, &record->bonds) && take_room(input, &record->room);
+    return take_field(input, BONDS_TAG, &record->bonds) && take_room(input, &record->room) && take_walks(input, &record->walks);
 }
 
 /* The answers. */
@@ -96,18 +112,36 @@ static void print_sets(const char *name, writes_sets *function, const struct rec
     printf("\n");
 }
 
+/* So many bytes as they are lent. */
+static void fill(uint8_t *bytes, size_t room, size_t lent) {
+    for (size_t i = 0; i < room; i++)
+        bytes[i] = (uint8_t)(lent + i);
+}
+
 /* Lends bytes, and prints the answer without them. */
 static void lend_bytes(const char *name, writes_bytes *function, const struct record *record) {
-    for (size_t i = 0; i < record->room; i++)
-        lent_bytes[i] = (uint8_t)(BYTE_LENT + i);
+    fill(lent_bytes, record->room, BYTE_LENT);
     print_answer(name, function(record->atoms, record->bonds.items, record->bonds.length, lent_bytes, record->room));
 }
 
-/* The assemblies: each byte after a space. */
+/* Each byte after a space, printed at one go, since walks have millions of them. */
+static void print_bytes(const uint8_t *bytes, size_t room) {
+    static const char digits[] = "0123456789abcdef";
+    static char text[3 * MOST_ROOM + 1];
+    char *end = text;
+    for (size_t i = 0; i < room; i++) {
+        *end++ = ' ';
+        if (bytes[i] > 0xf)
+            *end++ = digits[bytes[i] >> 4];
+        *end++ = digits[bytes[i] & 0xf];
+    }
+    *end = 0;
+    printf("%s", text);
+}
+
 static void print_assemblies(const struct record *record) {
     lend_bytes("assemblies", foliocrane_assemblies, record);
-    for (size_t i = 0; i < record->room; i++)
-        printf(" %x", (unsigned)lent_bytes[i]);
+    print_bytes(lent_bytes, record->room);
     printf("\n");
 }
 
@@ -132,6 +166,28 @@ static void print_answers(const struct record *record) {
     print_fields("sidecar", foliocrane_sidecar, record);
 }
 
+/* The walk that a field's content asks for: the set, the answer, each byte lent for atoms and, after a slash, each lent for bonds. */
+static void print_walk(const struct record *record, const uint8_t *asked) {
+    static uint8_t lent_bonds[UINT8_MAX];
+    uint64_t set = number_in(asked, 8);
+    size_t for_atoms = asked[8], for_bonds = asked[9];
+    fill(lent_bytes, for_atoms, BYTE_LENT);
+    fill(lent_bonds, for_bonds, BOND_LENT);
+    printf("walk %llx", (unsigned long long)set);
+    print_answer("", foliocrane_ring_walk(record->atoms, record->bonds.items, record->bonds.length, set, lent_bytes, for_atoms, lent_bonds,
+                                          for_bonds));
+    print_bytes(lent_bytes, for_atoms);
+    printf(" /");
+    print_bytes(lent_bonds, for_bonds);
+    printf("\n");
+}
+
+static void print_walks(const struct record *record) {
+    struct bytes left = record->walks, walk;
+    while (take_field(&left, WALK_TAG, &walk))
+        print_walk(record, walk.items);
+}
+
 /* The answers for every record, up to the first that is broken. */
 int main(void) {
     static uint8_t given[MOST_INPUT];
@@ -143,7 +199,10 @@ int main(void) {
             return 0;
         }
         printf("%zu\n", number);
-        print_answers(&record);
+        if (record.walks.length > 0)
+            print_walks(&record);
+        else
+            print_answers(&record);
     }
     return 0;
 }

@@ -1,8 +1,8 @@
 /* Calls every exported function, as C calls it, on examples S1 to S10 and S13 to S15 of docs/REFERENCE.md and on a few tables more. Each
    call's number, its count and every element of the list that was lent are held to what the example says: the items written, the rest
    as lent, all of it as lent where the call is refused. Each list is lent with no room, with one place too few, with just enough and
-   with more, over two fillings, and lies between guard bytes; so do the bond bytes. Empty lists are lent at an address that can't be read
-   too. */
+   with more, over two fillings, and lies between guard bytes; so do the bond bytes. The two lists of a walk are lent with each of these
+   rooms beside each. Empty lists are lent at an address that can't be read too. */
 #include <foliocrane.h>
 #include <stdio.h>
 #include <string.h>
@@ -87,9 +87,48 @@ static const struct example examples[] = {
 
 enum { EXAMPLES = sizeof examples / sizeof examples[0] };
 
+/* A set of bonds of an example, and the ring in walking order; without atoms and bonds where the set is no ring. */
+struct walk {
+    const char *example;
+    uint64_t set;
+    struct bytes atoms, bonds;
+};
+
+static uint8_t up_to_64[64];
+
+static const struct walk walks[] = {
+    {"S2", 1, NONE, NONE},
+    {"S3", 7, BYTES(0, 1, 2), BYTES(0, 1, 2)},
+    {"S3", 3, NONE, NONE},
+    {"S3", 15, NONE, NONE},
+    {"S4", 15, BYTES(0, 1, 2, 3), BYTES(0, 1, 2, 3)},
+    {"S4", 19, BYTES(0, 1, 2), BYTES(0, 1, 4)},
+    {"S4", 28, BYTES(2, 3, 0), BYTES(2, 3, 4)},
+    {"S5", 56, BYTES(0, 3, 4), BYTES(3, 4, 5)},
+    {"S5", 63, NONE, NONE},
+    {"S6", 63, BYTES(0, 1, 2, 3, 4, 5), BYTES(0, 1, 2, 3, 4, 5)},
+    {"S6", 199, BYTES(0, 1, 2, 3, 6), BYTES(0, 1, 2, 7, 6)},
+    {"S6", 248, BYTES(3, 4, 5, 0, 6), BYTES(3, 4, 5, 6, 7)},
+    {"S6", 255, NONE, NONE},
+    {"S6", 199 + 256, NONE, NONE},
+    {"S6", 199 + (1ull << 63), NONE, NONE},
+    {"S7", 30, BYTES(0, 2, 1, 3), BYTES(1, 3, 4, 2)},
+    {"S7", 51, BYTES(0, 1, 3, 2), BYTES(0, 4, 5, 1)},
+    {"S13", 0x6443, BYTES(0, 1, 3, 5, 4, 2), BYTES(0, 6, 13, 14, 10, 1)},
+    {"S13 with a seventh atom", 0x18001, BYTES(0, 1, 6), BYTES(0, 16, 15)},
+    {"S13 with a seventh atom", 0x6443, BYTES(0, 1, 3, 5, 4, 2), BYTES(0, 6, 13, 14, 10, 1)},
+    {"S15", ~0ull, {64, up_to_64}, {64, up_to_64}},
+    {"S15", ~0ull >> 1, NONE, NONE},
+    {"S4 and a three-ring", 224, BYTES(4, 5, 6), BYTES(5, 6, 7)},
+    {"S4 and a three-ring", 224 + 19, NONE, NONE},
+};
+
+enum { WALKS = sizeof walks / sizeof walks[0] };
+
 /* S15: bond k joins atoms k and k + 1, bond 63 closes the line, and a bond 64 is one too many. */
 static void draw_line(void) {
     for (size_t k = 0; k < 64; k++) {
+        up_to_64[k] = (uint8_t)k;
         line_of_64[2 * k] = (uint8_t)k;
         line_of_64[2 * k + 1] = (uint8_t)((k + 1) % 64);
     }
@@ -209,7 +248,7 @@ static int holds(const struct lent *lent, uint8_t filling, const void *written, 
     return 1;
 }
 
-static struct lent bonds, out;
+static struct lent bonds, out, beside;
 
 /* Lends the bond bytes of an example. */
 static void lend_bonds(const struct example *example) {
@@ -250,6 +289,51 @@ static void try_call(const struct example *example, const struct call *call) {
     }
 }
 
+/* One walk with room for so many atoms and so many bonds over one filling. */
+static void try_rooms(const struct example *example, const struct walk *walk, size_t for_atoms, size_t for_bonds, uint8_t filling) {
+    char name[100];
+    snprintf(name, sizeof name, "foliocrane_ring_walk round %llx, %zu bytes lent for bonds,", (unsigned long long)walk->set, for_bonds);
+    lend_bonds(example);
+    lend(&out, filling);
+    lend(&beside, filling ^ 0x33);
+    foliocrane_answer answer = foliocrane_ring_walk(example->atoms, bonds.all + GUARD, example->bonds.length, walk->set, out.all + GUARD,
+                                                    for_atoms, beside.all + GUARD, for_bonds);
+    size_t length = walk->bonds.length, room = for_atoms < for_bonds ? for_atoms : for_bonds;
+    uint8_t refusal = example->refusal ? example->refusal : length == 0 ? FOLIOCRANE_NOTRING : 0;
+    uint8_t number = refusal ? refusal : length > room ? FOLIOCRANE_ROOM : 0;
+    size_t count = number ? 0 : length;
+    check(answer.number == number, example, name, for_atoms, "the number");
+    check(answer.count == count, example, name, for_atoms, "the count");
+    check(holds(&out, filling, walk->atoms.items, count), example, name, for_atoms, "the list for atoms");
+    check(holds(&beside, filling ^ 0x33, walk->bonds.items, count), example, name, for_atoms, "the list for bonds");
+    check(bonds_as_lent(example), example, name, for_atoms, "the bond bytes");
+}
+
+/* Every room worth trying for the atoms, beside every one for the bonds. */
+static void try_walk(const struct example *example, const struct walk *walk) {
+    size_t length = walk->bonds.length;
+    const size_t rooms[] = {0, length - (length > 0), length, length + 1, MOST_LENT};
+    for (size_t i = 0; i < 25; i++) {
+        try_rooms(example, walk, rooms[i / 5], rooms[i % 5], 0);
+        try_rooms(example, walk, rooms[i / 5], rooms[i % 5], 0xff);
+    }
+}
+
+/* The walks of an example, and before them the empty set and a set of two bonds, which are rings of no table. Gives how many of the walks
+   above are its own. */
+static size_t try_walks(const struct example *example) {
+    const struct walk empty = {example->name, 0, NONE, NONE}, two_bonds = {example->name, 5, NONE, NONE};
+    size_t own = 0;
+    try_walk(example, &empty);
+    try_walk(example, &two_bonds);
+    for (size_t i = 0; i < WALKS; i++)
+        if (strcmp(walks[i].example, example->name) == 0) {
+            try_walk(example, &walks[i]);
+            own++;
+        }
+    return own;
+}
+
 static void try_check(const struct example *example) {
     lend_bonds(example);
     foliocrane_answer answer = foliocrane_check(example->atoms, bonds.all + GUARD, example->bonds.length);
@@ -277,9 +361,11 @@ static void try_example(const struct example *e) {
         try_call(e, &calls[i]);
 }
 
-/* Empty lists at an address that is not to be followed: an atom by itself has no rings, and its label and sidecar find no room. */
+/* Empty lists at an address that is not to be followed: an atom by itself has no rings, and its label and sidecar find no room; a walk round
+   a three-ring finds none either. */
 static void try_nowhere(void) {
-    static const struct example alone = {"one atom, with lists of length 0 at address 8", 1, NONE, 0, 0, NONE, NONE, NONE, NONE, NONE, ""};
+    static const struct example alone = {"lists of length 0 at address 8", 1, NONE, 0, 0, NONE, NONE, NONE, NONE, NONE, ""};
+    static const uint8_t triangle[] = {TRIANGLE};
     const uint8_t *from = (const uint8_t *)8;
     uint64_t *words = (uint64_t *)8;
     uint8_t *bytes = (uint8_t *)8;
@@ -296,6 +382,8 @@ static void try_nowhere(void) {
         {"foliocrane_reduced_basis", foliocrane_reduced_basis(1, from, 0, words, 0), 0},
         {"foliocrane_label", foliocrane_label(1, from, 0, bytes, 0), FOLIOCRANE_ROOM},
         {"foliocrane_sidecar", foliocrane_sidecar(1, from, 0, bytes, 0), FOLIOCRANE_ROOM},
+        {"foliocrane_ring_walk", foliocrane_ring_walk(1, from, 0, 0, bytes, 0, bytes, 0), FOLIOCRANE_NOTRING},
+        {"foliocrane_ring_walk", foliocrane_ring_walk(3, triangle, sizeof triangle, 7, bytes, 0, bytes, 0), FOLIOCRANE_ROOM},
     };
     for (size_t i = 0; i < sizeof calls / sizeof calls[0]; i++)
         check(calls[i].answer.number == calls[i].number && calls[i].answer.count == 0, &alone, calls[i].name, 0, "the answer");
@@ -307,12 +395,19 @@ int main(void) {
         printf("calls: six atoms all joined have 197 rings, and the list here has not\n");
         return 1;
     }
-    for (size_t i = 0; i < EXAMPLES; i++)
+    size_t walked = 0;
+    for (size_t i = 0; i < EXAMPLES; i++) {
         try_example(&examples[i]);
+        walked += try_walks(&examples[i]);
+    }
+    if (walked != WALKS) {
+        printf("calls: %zu of %d walks belong to an example\n", walked, WALKS);
+        return 1;
+    }
     try_nowhere();
     if (failures > 0)
         printf("calls: %zu of %zu checks do not hold; first %s\n", failures, checks, first);
     else
-        printf("calls: 8 functions on %d tables, %zu checks hold\n", EXAMPLES, checks);
+        printf("calls: 9 functions on %d tables, %zu checks hold\n", EXAMPLES, checks);
     return failures > 0;
 }

@@ -36,9 +36,7 @@ impl Found {
         let basis = graph.basis_rings();
         let assemblies = assemblies(&basis);
         let reduced = reduced_basis(&basis, &assemblies);
-        let tangled = by_assembly(&basis, &assemblies)
-            .iter()
-            .any(|rings| rings.len() > MOST_IN_ASSEMBLY);
+        let tangled = is_tangled(&basis, &assemblies);
         let mut found = Found {
             tangled,
             basis,
@@ -77,6 +75,13 @@ impl Found {
             given => given,
         }
     }
+}
+
+/// Some assembly has more basis rings than it may have.
+pub fn is_tangled(basis: &[u64], assemblies: &[u8]) -> bool {
+    by_assembly(basis, assemblies)
+        .iter()
+        .any(|rings| rings.len() > MOST_IN_ASSEMBLY)
 }
 
 /// The basis rings of each assembly, both in order.

@@ -10,11 +10,13 @@
 //! walking serve PROGRAM [--wrong NAME]                     answers like the program, from the search
 //! ```
 //!
-//! PROGRAM is `ringline`, `answers` or `lookups`. Options: `--seed N`, `--tables N` (random tables), `--records N` (the most
+//! PROGRAM is `ringline`, `answers`, `walks` or `lookups`. Options: `--seed N`, `--tables N` (random tables), `--records N` (the most
 //! records of one input), `--patience N` (seconds that one input may take). The exit status is 1 if something differs or
 //! fails, 2 if the arguments are not understood.
 
 mod answers;
+mod asked;
+mod astray;
 mod compare;
 mod damaged;
 mod examples;
@@ -24,11 +26,14 @@ mod lists;
 mod planted;
 mod protocol;
 mod random;
+mod round;
+mod roundcheck;
 mod selfcheck;
 mod set;
 mod sketch;
 mod table;
 mod walk;
+mod walks;
 mod wrong;
 
 use protocol::{Program, Search, PROGRAMS};
@@ -97,11 +102,12 @@ fn error_called(name: &str) -> Result<Wrong, String> {
 }
 
 fn program_called(read: &Arguments) -> Result<Program, String> {
+    let names = || PROGRAMS.map(Program::name).join(", ");
     let name = read
         .plain
         .first()
-        .ok_or("which program, ringline, answers or lookups?")?;
-    Program::called(name).ok_or(format!("{name} is not ringline, answers or lookups"))
+        .ok_or(format!("which program, {}?", names()))?;
+    Program::called(name).ok_or(format!("{name} is no program of {}", names()))
 }
 
 /// Does what a mode says; false if something differs or fails.

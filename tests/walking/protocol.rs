@@ -3,7 +3,8 @@
 //! A record is field 10 (hex) with the atom count in one byte, then field 11 with the bond bytes. `ringline` prints what
 //! docs/REFERENCE.md says. `answers` takes an atom count of eight bytes too, high byte first. It may find a field 1f (hex) after
 //! field 11, two bytes, high byte first: the room, the number of items that every list-writing entry is lent. Without it the
-//! room is ROOM_UNSAID. No room is above MOST_ROOM.
+//! room is ROOM_UNSAID. No room is above MOST_ROOM. After these a record may ask for walks, by a field 1e (hex) for each: a set
+//! of bonds in eight bytes, high byte first, the room for atoms in one byte and the room for bonds in one.
 //!
 //! `answers` prints for each record a line with its number from 1, then, words parted by single spaces:
 //!
@@ -16,28 +17,41 @@
 //! sidecar like label
 //! ```
 //!
-//! Numbers and counts are decimal; lent words and assemblies' bytes are lower-case hex without leading zeros; label
-//! and sidecar have two digits a byte. Every lent element is printed after the call, the untouched rest too: word i is
-//! lent as WORD_LENT + i, byte i as BYTE_LENT + i modulo 256.
+//! and where the record asks for walks, for each of them in place of all these
+//!
+//! ```text
+//! walk SET NUMBER COUNT and every byte lent for atoms, then / and every byte lent for bonds
+//! ```
+//!
+//! Numbers and counts are decimal; sets, lent words and the bytes of assemblies and walks are lower-case hex without leading
+//! zeros; label and sidecar have two digits a byte. Every lent element is printed after the call, the untouched rest too: word
+//! i is lent as WORD_LENT + i, byte i as BYTE_LENT + i modulo 256, for walks as asked.rs has it.
 //! A record cut short, or a field of another tag or length, prints the record's number and `frame` and ends the output.
+//!
+//! `walks` is `answers` on records that ask for walks.
 //!
 //! `lookups` reads lists (see `Lists`): for each record of `answers` the whole lent list of the smallest basis first and the
 //! whole lent list of all rings second, both as they are after their calls. It numbers the records, and says `frame`, likewise.
 
 use crate::answers::{field, outcome, Answer, Found};
+use crate::asked::{answered, found, Asked, Walked};
 use crate::lists::{lists_of, Lists, MOST_LISTS};
 use crate::table::Table;
+use crate::walk::Graph;
 use crate::wrong::Wrong;
 use std::fmt::Write;
 use std::rc::Rc;
 
-/// The most bytes that `ringline` reads; no input of `answers` is longer.
+/// The most bytes that `ringline` reads; no input of `answers` is longer, if it asks for no walks.
 pub const MOST_INPUT: usize = 32_768;
+/// The most bytes that `answers` reads.
+const MOST_WALKS: usize = 131_072;
 /// One word more than all rings of a table can need.
 pub const MOST_ROOM: usize = 6_548;
 pub const ROOM_UNSAID: usize = 64;
 const ATOMS_TAG: u8 = 0x10;
 const BONDS_TAG: u8 = 0x11;
+const WALK_TAG: u8 = 0x1e;
 const ROOM_TAG: u8 = 0x1f;
 const WORD_LENT: u64 = 0xa5a5_0000_0000_0000;
 const BYTE_LENT: usize = 0xa5;
@@ -46,10 +60,16 @@ const BYTE_LENT: usize = 0xa5;
 pub enum Program {
     Ringline,
     Answers,
+    Walks,
     Lookups,
 }
 
-pub const PROGRAMS: [Program; 3] = [Program::Ringline, Program::Answers, Program::Lookups];
+pub const PROGRAMS: [Program; 4] = [
+    Program::Ringline,
+    Program::Answers,
+    Program::Walks,
+    Program::Lookups,
+];
 
 impl Program {
     pub fn called(name: &str) -> Option<Program> {
@@ -60,6 +80,7 @@ impl Program {
         match self {
             Program::Ringline => "ringline",
             Program::Answers => "answers",
+            Program::Walks => "walks",
             Program::Lookups => "lookups",
         }
     }
@@ -68,6 +89,7 @@ impl Program {
     pub fn most_input(self) -> usize {
         match self {
             Program::Ringline | Program::Answers => MOST_INPUT,
+            Program::Walks => MOST_WALKS,
             Program::Lookups => MOST_LISTS,
         }
     }
@@ -78,10 +100,11 @@ impl Program {
     }
 }
 
-/// A record of the input: its table, its room if it says one, and its bytes.
+/// A record of the input: its table, its room if it says one, the walks that it asks for, and its bytes.
 pub struct Record {
     pub table: Table,
     pub room: Option<usize>,
+    pub walks: Vec<Asked>,
     pub bytes: Vec<u8>,
 }
 
@@ -99,6 +122,17 @@ pub fn record_bytes(table: &Table, room: Option<usize>) -> Vec<u8> {
     bytes
 }
 
+/// The bytes of a record that asks for walks.
+pub fn walk_bytes(table: &Table, walks: &[Asked]) -> Vec<u8> {
+    let fields = walks
+        .iter()
+        .flat_map(|asked| field(WALK_TAG, asked.bytes()));
+    record_bytes(table, None)
+        .into_iter()
+        .chain(fields)
+        .collect()
+}
+
 /// The field with a tag at the start of the input, and what follows it.
 fn take_field(input: &[u8], tag: u8) -> Option<(&[u8], &[u8])> {
     let length = usize::from(u16::from_be_bytes([*input.get(1)?, *input.get(2)?]));
@@ -111,15 +145,21 @@ fn take_record(program: Program, input: &[u8]) -> Option<(Record, &[u8])> {
     let (atoms, rest) = take_field(input, ATOMS_TAG)?;
     let atoms = match (<[u8; 1]>::try_from(atoms), <[u8; 8]>::try_from(atoms)) {
         (Ok([byte]), _) => u64::from(byte),
-        (_, Ok(eight)) if program == Program::Answers => u64::from_be_bytes(eight),
+        (_, Ok(eight)) if program != Program::Ringline => u64::from_be_bytes(eight),
         _ => return None,
     };
     let (bonds, mut rest) = take_field(rest, BONDS_TAG)?;
     let mut room = None;
-    if program == Program::Answers && rest.first() == Some(&ROOM_TAG) {
+    let mut walks = Vec::new();
+    if program != Program::Ringline && rest.first() == Some(&ROOM_TAG) {
         let (said, after) = take_field(rest, ROOM_TAG)?;
         let &[high, low] = said else { return None };
         room = Some(usize::from(u16::from_be_bytes([high, low])));
+        rest = after;
+    }
+    while program != Program::Ringline && rest.first() == Some(&WALK_TAG) {
+        let (asked, after) = take_field(rest, WALK_TAG)?;
+        walks.push(Asked::read(asked)?);
         rest = after;
     }
     let table = Table {
@@ -130,6 +170,7 @@ fn take_record(program: Program, input: &[u8]) -> Option<(Record, &[u8])> {
         Record {
             table,
             room,
+            walks,
             bytes: input[..input.len() - rest.len()].to_vec(),
         },
         rest,
@@ -194,7 +235,7 @@ impl Search {
     pub fn text(&mut self, program: Program, input: &[u8]) -> Vec<Piece> {
         let mut pieces = match program {
             Program::Ringline => self.ringline_text(input),
-            Program::Answers => self.answers_text(input),
+            Program::Answers | Program::Walks => self.answers_text(input),
             Program::Lookups => self.lookups_text(input),
         };
         if let Some(wrong) = self.wrong {
@@ -246,25 +287,36 @@ impl Search {
     fn answers_text(&mut self, input: &[u8]) -> Vec<Piece> {
         let (records, broken) = records(Program::Answers, input);
         let lines = records.iter().map(|record| {
+            if !record.walks.is_empty() {
+                return self.walk_lines(record);
+            }
             let room = record.room.unwrap_or(ROOM_UNSAID);
             answer_lines(&self.found(&record.table), room)
         });
         numbered(lines.collect(), broken)
     }
 
+    /// A line for each walk that a record asks for.
+    fn walk_lines(&self, record: &Record) -> String {
+        let table = match record.table.refusal() {
+            0 => Ok(Graph::of(&record.table)),
+            refusal => Err(refusal),
+        };
+        let mut text = String::new();
+        for asked in &record.walks {
+            let walked = match self.wrong {
+                Some(Wrong::Walk(astray)) => astray.walked(&table, asked),
+                _ => answered(found(&table, asked.set), asked),
+            };
+            put_walk(&mut text, asked.set, &walked);
+        }
+        text
+    }
+
     fn lookups_text(&self, input: &[u8]) -> Vec<Piece> {
         let (records, broken) = lists_of(input);
         let lines = records.iter().map(|lists| lists.lines(self.wrong));
         numbered(lines.collect(), broken)
-    }
-
-    /// The bytes of the record that a program is given for a table and a room.
-    pub fn record(&mut self, program: Program, table: &Table, room: Option<usize>) -> Vec<u8> {
-        match program {
-            Program::Ringline => record_bytes(table, None),
-            Program::Answers => record_bytes(table, room),
-            Program::Lookups => looked_up(&self.found(table), room.unwrap_or(ROOM_UNSAID)).bytes(),
-        }
     }
 }
 
@@ -292,8 +344,9 @@ fn words_lent(room: usize) -> Vec<u64> {
 }
 
 /// The lent lists of the smallest basis and of all rings after their calls.
-fn looked_up(found: &Found, room: usize) -> Lists {
-    let lent = |rings: &[u64]| outcome(found.refusal_of_rings(), rings, words_lent(room)).lent;
+pub fn looked_up(found: &Found, room: Option<usize>) -> Lists {
+    let words = || words_lent(room.unwrap_or(ROOM_UNSAID));
+    let lent = |rings: &[u64]| outcome(found.refusal_of_rings(), rings, words()).lent;
     Lists {
         first: lent(&found.smallest),
         second: lent(&found.all),
@@ -342,6 +395,18 @@ fn put_bytes(text: &mut String, entry: &str, answer: &Answer<u8>) {
     let _ = write!(text, "{entry} {} {}", answer.number, answer.count);
     if !answer.lent.is_empty() {
         let _ = write!(text, " {}", hex(&answer.lent));
+    }
+    text.push('\n');
+}
+
+fn put_walk(text: &mut String, set: u64, walked: &Walked) {
+    let _ = write!(text, "walk {set:x} {} {}", walked.number, walked.count);
+    for atom in &walked.atoms {
+        let _ = write!(text, " {atom:x}");
+    }
+    text.push_str(" /");
+    for bond in &walked.bonds {
+        let _ = write!(text, " {bond:x}");
     }
     text.push('\n');
 }

@@ -8,6 +8,7 @@ use crate::framing::example;
 use crate::lists::Lists;
 use crate::protocol::{hex, Program, Search};
 use crate::random::Random;
+use crate::roundcheck::{by_hand, by_trying, by_words};
 use crate::set::small_graphs;
 use crate::table::Table;
 use crate::walk::{in_order, Graph};
@@ -16,13 +17,13 @@ use std::collections::HashSet;
 
 /// Notes what does not hold.
 #[derive(Default)]
-struct Report {
+pub struct Report {
     held: usize,
     failed: Vec<String>,
 }
 
 impl Report {
-    fn check(&mut self, holds: bool, what: impl Fn() -> String) {
+    pub fn check(&mut self, holds: bool, what: impl Fn() -> String) {
         if holds {
             self.held += 1;
         } else {
@@ -30,7 +31,7 @@ impl Report {
         }
     }
 
-    fn same<T: PartialEq + std::fmt::Debug>(&mut self, what: &str, wanted: &Option<T>, got: T) {
+    pub fn same<T: PartialEq + std::fmt::Debug>(&mut self, what: &str, wanted: &Option<T>, got: T) {
         if let Some(wanted) = wanted {
             self.check(*wanted == got, || {
                 format!("{what}: wanted {wanted:?}, got {got:?}")
@@ -48,12 +49,15 @@ pub fn run(seed: u64) -> bool {
     rooms_of_s14(&mut report);
     printed_example(&mut report);
     size_lookup(&mut report);
+    by_hand(&mut report);
     let mut random = Random::new(seed);
     counted_rings(&mut report, &mut random);
     refusals(&mut report, &mut random);
     for atoms in 1..=5usize {
         for bonds in small_graphs(atoms) {
-            by_definition(&mut report, &Table::new(atoms as u64, &bonds));
+            let table = Table::new(atoms as u64, &bonds);
+            by_definition(&mut report, &table);
+            by_trying(&mut report, &table);
         }
     }
     for turn in 0..2_000 {
@@ -137,7 +141,7 @@ fn rooms_of_s14(report: &mut Report) {
 }
 
 /// What the search prints for a program.
-fn printed(program: Program, input: &[u8]) -> String {
+pub fn printed(program: Program, input: &[u8]) -> String {
     let pieces = Search::new(None).text(program, input);
     pieces.into_iter().map(|piece| piece.text).collect()
 }
@@ -361,4 +365,5 @@ fn other_ways(report: &mut Report, table: &Table, random: &mut Random) {
     report.check(found.smallest.len() == how_many, || {
         format!("length of the smallest basis: {}", table.shown())
     });
+    by_words(report, table, &found.all, random);
 }

@@ -5,9 +5,11 @@ use crate::damaged::{all_sets_of_faults, at_the_edges};
 use crate::examples::examples;
 use crate::frames::{cages, grown, known, long, scattered, tangled};
 use crate::framing::streams;
-use crate::protocol::{Program, Search, MOST_ROOM};
+use crate::protocol::{looked_up, record_bytes, walk_bytes, Program, MOST_ROOM};
 use crate::random::Random;
 use crate::table::{turn_some, Table};
+use crate::walks::walks;
+use std::rc::Rc;
 
 /// The random tables of a full run, twins not counted.
 pub const TABLES: usize = 10_000;
@@ -21,10 +23,11 @@ pub struct Wanted {
     pub records: usize,
 }
 
-/// A table, where it comes from, and the rooms to be lent for it.
+/// A table, where it comes from, what the search finds, and the rooms to be lent for it.
 pub struct Case {
     pub note: &'static str,
     pub table: Table,
+    found: Rc<Found>,
     rooms: Vec<Option<usize>>,
 }
 
@@ -42,6 +45,9 @@ enum Rooms {
     Every,
     Some(usize),
 }
+
+/// The most walks that a record asks for.
+const MOST_ASKED: usize = 500;
 
 /// Rooms above this are taken once in eight times only, since every lent word is printed.
 const COMMON_ROOM: usize = 300;
@@ -71,8 +77,8 @@ struct Set {
 }
 
 impl Set {
-    fn add(&mut self, note: &'static str, table: Table, rooms: Rooms) -> Found {
-        let found = Found::of(&table);
+    fn add(&mut self, note: &'static str, table: Table, rooms: Rooms) -> Rc<Found> {
+        let found = Rc::new(Found::of(&table));
         let about = rooms_about(&found);
         let rooms = match rooms {
             Rooms::Every => about,
@@ -81,6 +87,7 @@ impl Set {
         self.cases.push(Case {
             note,
             table,
+            found: found.clone(),
             rooms: rooms.into_iter().map(Some).collect(),
         });
         found
@@ -200,14 +207,12 @@ pub fn cases(wanted: &Wanted) -> Vec<Case> {
         cases: Vec::new(),
     };
     for example in examples() {
-        set.add(
-            "example of docs/REFERENCE.md",
-            example.table.clone(),
-            Rooms::Every,
-        );
+        let note = "example of docs/REFERENCE.md";
+        let found = set.add(note, example.table.clone(), Rooms::Every);
         set.cases.push(Case {
             note: "example without a room",
             table: example.table,
+            found,
             rooms: vec![None],
         });
     }
@@ -226,21 +231,30 @@ pub fn cases(wanted: &Wanted) -> Vec<Case> {
     set.cases
 }
 
+/// The records that a program is given for a case.
+fn records_of(program: Program, case: &Case, random: &mut Random) -> Vec<Vec<u8>> {
+    let (table, found) = (&case.table, &case.found);
+    let rooms = case.rooms.iter();
+    match program {
+        Program::Ringline => vec![record_bytes(table, None)],
+        Program::Answers => rooms.map(|&room| record_bytes(table, room)).collect(),
+        Program::Walks => walks(table, found, random)
+            .chunks(MOST_ASKED)
+            .map(|asked| walk_bytes(table, asked))
+            .collect(),
+        Program::Lookups => rooms.map(|&room| looked_up(found, room).bytes()).collect(),
+    }
+}
+
 /// All inputs of a program. Broken framing is tried on `ringline` only, and atom counts of more than a byte are not.
 pub fn batches(program: Program, wanted: &Wanted) -> Vec<Batch> {
-    let mut search = Search::new(None);
+    let mut random = Random::new(wanted.seed ^ 0x1e);
     let mut batches = vec![Batch::default()];
     for case in cases(wanted) {
         if !program.takes(&case.table) {
             continue;
         }
-        let rooms = if program == Program::Ringline {
-            &[None][..]
-        } else {
-            &case.rooms[..]
-        };
-        for &room in rooms {
-            let bytes = search.record(program, &case.table, room);
+        for bytes in records_of(program, &case, &mut random) {
             let last = &batches[batches.len() - 1];
             let full = last.bytes.len() + bytes.len() > program.most_input();
             if full || last.notes.len() == wanted.records {

@@ -1,7 +1,8 @@
 //! Errors put into the search on demand, to see that a comparison reports them (planted.rs). Among them are the traps of
-//! docs/REFERENCE.md. Those of the size lookup are put in where its lines are made (lists.rs).
+//! docs/REFERENCE.md. Those of the size lookup are put in where its lines are made (lists.rs), those of walks by astray.rs.
 
 use crate::answers::{by_assembly, reduced_basis, smallest_basis, Found};
+use crate::astray::Astray::{self, *};
 use crate::protocol::Program;
 use crate::table::Table;
 use crate::walk::{in_order, Graph};
@@ -27,12 +28,13 @@ pub enum Wrong {
     LookupFirstOnly,
     LookupOneWord,
     EndAfterFrame,
+    Walk(Astray),
 }
 
 use Wrong::*;
 
 /// The errors by the names that `--wrong` takes.
-pub const ERRORS: [(&str, Wrong); 19] = [
+pub const ERRORS: [(&str, Wrong); 36] = [
     ("gibbs-on-reduced", GibbsOnReduced),
     ("literal-step", LiteralStep),
     ("cut-to-ten", CutToTen),
@@ -52,13 +54,31 @@ pub const ERRORS: [(&str, Wrong); 19] = [
     ("lookup-first-only", LookupFirstOnly),
     ("lookup-one-word", LookupOneWord),
     ("end-after-frame", EndAfterFrame),
+    ("walk-higher-start", Walk(HigherStart)),
+    ("walk-backwards", Walk(Backwards)),
+    ("walk-last-bond-out", Walk(LastBondOut)),
+    ("walk-start-twice", Walk(StartTwice)),
+    ("walk-empty-taken", Walk(EmptyTaken)),
+    ("walk-path-taken", Walk(PathTaken)),
+    ("walk-two-rings-taken", Walk(TwoRingsTaken)),
+    ("walk-crossing-taken", Walk(CrossingTaken)),
+    ("walk-beyond-taken", Walk(BeyondTaken)),
+    ("walk-set-first", Walk(SetFirst)),
+    ("walk-room-first", Walk(RoomFirst)),
+    ("walk-tangled-refused", Walk(TangledRefused)),
+    ("walk-exact-room-refused", Walk(ExactRoomRefused)),
+    ("walk-atoms-alone", Walk(AtomsAlone)),
+    ("walk-bonds-alone", Walk(BondsAlone)),
+    ("walk-both-counted", Walk(BothCounted)),
+    ("walk-rest-touched", Walk(RestTouched)),
 ];
 
-/// The programs whose answers an error spoils: `ringline` prints refusals and labels, `answers` lists and rooms too, and `lookups` what
-/// the size lookup hands back.
+/// The programs whose answers an error spoils: `ringline` prints refusals and labels, `answers` lists and rooms too, `walks` rings in
+/// walking order, and `lookups` what the size lookup hands back.
 pub fn shown_by(wrong: Wrong) -> &'static [Program] {
     match wrong {
         EndAfterFrame => &[Program::Ringline],
+        Walk(_) => &[Program::Walks],
         LookupFirstOnly | LookupOneWord => &[Program::Lookups],
         NumberOrder | ExactFitRefused | RestWritten | WrittenWhenRefused => &[Program::Answers],
         _ => &[Program::Ringline, Program::Answers],
