@@ -11,7 +11,7 @@ use native.Mathlib.Nat.{not-suc-le-zero}
 use native.Mathlib.Omega.{arith}
 use lib.ListN.{length, getD}
 use lib.Dec.{leb, ltb, eqb, lit<}
-use borrow.Author.Tests.{leb-true, leb-false, eqb-true, eqb-false, not-true, not-false}
+use borrow.Author.Tests.{eqb-true, eqb-false, not-true, not-false}
 use Rattle.definitions.specs.Search.{Each}
 use Rattle.definitions.specs.Table.{Table, bonds, tail, head, maxAtoms, maxBonds, alike?, seenBefore?, tableTests, firstOf, refusal, ODD, ATOMS, BONDS, TANGLED, ROOM, NOTRING}
 use Rattle.definitions.specs.Ring.{Ring, ring?}
@@ -19,7 +19,7 @@ use Rattle.definitions.specs.Basis.{basisRings}
 use Rattle.definitions.specs.Assembly.{assemblyCount, ringsIn, maxAssembly, tangled?}
 use Rattle.definitions.specs.Answer.{refusalOfRings, refusalOfWalk, outcome}
 use Rattle.definitions.specs.Sentences.{OddBytes, BadCount, ManyBonds, Alike, Tangled, NoRing, TooShort, wrongs, wrongsOfRings, wrongsOfWalk, orNoRoom, placed, Told}
-use Rattle.definitions.proofs.Tests.{by, each-more, not-passed, and-both, clashes, Tells, true-of, false-of, tells-leb, tells-ltb, tells-eqb, tells-or, tells-and, tells-as, tells-not, tells-some}
+use Rattle.definitions.proofs.Tests.{by, each-more, not-passed, and-both, clashes, Tells, true-of, false-of, tells-leb, tells-ltb, tells-eqb, tells-or, tells-and, tells-as, tells-not, tells-turned, tells-some}
 use Rattle.definitions.proofs.Rings.{ring-test}
 
 -- ---- the first of a list of numbered tests that passes
@@ -471,30 +471,21 @@ module _ {A : Type 0} (room : Bool) (n : ℕ) (given lent : A) where
       (λ z q. q ∙ rw z number-by-room)
       (λ z q. q ∙ number-refused (firstOf ts) z)
 
--- there is too little room in a list exactly where the test for room fails
-pub tells-room : (wanted lent : List ℕ) → Tells (not (leb (length wanted) (length lent))) (TooShort wanted lent) (length wanted ≤ length lent)
-tells-room wanted lent = record {
-  yes-says = λ e. leb-false (length wanted) (length lent) (not-true _ e);
-  no-says = λ e. leb-true (length wanted) (length lent) (not-false _ e);
-  clash = λ p q. omega arith;
-}
+-- the test for room fails exactly where there is too little in a list
+pub tells-room : (wanted lent : List ℕ) → Tells (leb (length wanted) (length lent)) (length wanted ≤ length lent) (TooShort wanted lent)
+tells-room wanted lent = tells-leb (length wanted) (length lent)
 
--- and in one of two lists where that for both fails
+-- and that for two lists where there is too little in one of them
 pub tells-rooms : (wanted wanted′ lent lent′ : List ℕ)
-    → Tells (not (leb (length wanted) (length lent) && leb (length wanted′) (length lent′))) (TooShort wanted lent ⊎ TooShort wanted′ lent′)
-    ((length wanted ≤ length lent) × (length wanted′ ≤ length lent′))
-tells-rooms wanted wanted′ lent lent′ =
-    rw (not-and (leb (length wanted) (length lent)) (leb (length wanted′) (length lent′))) at (tells-or (tells-room wanted lent) (tells-room wanted′ lent′))
-  where
-    not-and : (a b : Bool) → not a || not b ≡ not (a && b)
-    not-and true b = refl
-    not-and false b = refl
+    → Tells (leb (length wanted) (length lent) && leb (length wanted′) (length lent′)) ((length wanted ≤ length lent) × (length wanted′ ≤ length lent′))
+    (TooShort wanted lent ⊎ TooShort wanted′ lent′)
+tells-rooms wanted wanted′ lent lent′ = tells-and (tells-room wanted lent) (tells-room wanted′ lent′)
 
 -- the number of what is written, where something may be too short
-module _ {A : Type 0} (room : Bool) {short fits : Type 0} (t : Tells (not room) short fits) (n : ℕ) (given lent : A) where
+module _ {A : Type 0} (room : Bool) {short fits : Type 0} (t : Tells room fits short) (n : ℕ) (given lent : A) where
   room-told : {ts : List (ℕ × Bool)} {Ps : List (ℕ × Type 0)} {Ns : List (Type 0)} → Tell ts Ps Ns → distinct? (numbers ts) ≡ true
       → distinct? (numbers (ts ++ ((ROOM, not room) ∷ []))) ≡ true → Told (orNoRoom Ps short) (outcome (firstOf ts) room n given lent .number)
-  room-told {ts} s d e = subst (Told _) (outcome-number room n given lent ts d) (told-first (tell-last ROOM s t) e)
+  room-told {ts} s d e = subst (Told _) (outcome-number room n given lent ts d) (told-first (tell-last ROOM s (tells-turned t)) e)
 
   -- where the table may be refused
   pub table-room-told : (M : Table) → Told (orNoRoom (wrongs M) short) (outcome (refusal M) room n given lent .number)

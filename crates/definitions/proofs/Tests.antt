@@ -2,13 +2,13 @@
 -- what a test that is made of others says. Assumes nothing.
 use mathlib.Core.Path.{_≡_, refl, sym, _∙_}
 use mathlib.Core.Logic.{_↔_, _⊎_, inl, inr, ⊎-elim}
-use mathlib.Core.Bool.{or-true, or-false, Bool, true, false, _&&_, _||_, cond, true≢false, false≢true}
+use mathlib.Core.Bool.{or-true, or-false, Bool, true, false, _&&_, _||_, not, cond, true≢false, false≢true}
 use Prim.Native.Nat.{ℕ, zero, suc, _+_, _<_, _≤_}
 use native.Mathlib.Numerals.{add-one}
 use native.Mathlib.Nat.{le-antisymm}
 use native.Mathlib.Omega.{arith}
 use lib.Dec.{leb, ltb, eqb}
-use borrow.Author.Tests.{leb-true, leb-false, ltb-true, ltb-false, lt-ltb, le-ltb, eqb-true, eqb-false, eq-eqb, ne-eqb}
+use borrow.Author.Tests.{leb-true, leb-false, ltb-true, ltb-false, lt-ltb, le-ltb, eqb-true, eqb-false, eq-eqb, ne-eqb, not-true, not-false}
 use Rattle.definitions.specs.Search.{every, some?, Each, Some}
 
 -- by cases of a test, with its equation
@@ -200,6 +200,10 @@ tells-as t f g c = record { yes-says = λ e. f (t .yes-says e); no-says = λ e. 
 -- what fails where a test fails is what the test says
 pub tells-not : {b : Bool} {P N : Type 0} → Tells b P N → Tells b P (P → ⊥)
 tells-not t = tells-as t (λ p. p) (λ n p. t .clash p n) (λ p q. q p)
+
+-- what a test says that is to fail
+pub tells-turned : {b : Bool} {P N : Type 0} → Tells b P N → Tells (not b) N P
+tells-turned {b} t = record { yes-says = λ e. t .no-says (not-true b e); no-says = λ e. t .yes-says (not-false b e); clash = λ n p. t .clash p n }
 
 module _ {P Q N M : Type 0} where
   -- what two tests say of which one is to pass

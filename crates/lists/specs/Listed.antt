@@ -7,7 +7,14 @@ use Rattle.sets.specs.Bits.{size}
 use Rattle.definitions.specs.Search.{sort}
 use Rattle.definitions.specs.Table.{maxBonds}
 use Rattle.definitions.specs.AllRings.{before}
+use Rattle.basis.specs.declared.assembly.Assemblies.{Assemblies}
+use Rattle.basis.specs.Held.{membersOf}
+use Rattle.combining.specs.Gibbs.{foundIn}
 use Rattle.perception.specs.Perceiving.{sumsIn}
+
+-- what the combination finds in assemblies of these basis rings, one assembly after another
+abbrev pub ringsFound : List ℕ → Assemblies → List ℕ
+ringsFound rings assemblies = foundIn rings (membersOf assemblies) (assemblies .count)
 
 -- a list of m sets has room for what the combination finds in the first n assemblies, and for the sums of each
 pub record Listable (members : List ℕ) (n m : ℕ) : Type 0 where

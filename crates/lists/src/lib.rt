@@ -26,10 +26,9 @@ ghost use Rattle.definitions.specs.AllRings.{before, allRings};
 ghost use Rattle.definitions.specs.Smallest.{taking, smallestBasis};
 ghost use Rattle.definitions.specs.Answer.{outcomeOf, writtenSets, refusalOfRings};
 ghost use Rattle.basis.specs.Held.{membersOf};
-ghost use Rattle.combining.specs.Gibbs.{foundIn};
 ghost use Rattle.choosing.specs.Elimination.{Spanned};
 ghost use Rattle.perception.specs.Perceiving.{few, many};
-ghost use Rattle.lists.specs.Listed.{Listable, Workable, most};
+ghost use Rattle.lists.specs.Listed.{ringsFound, Listable, Workable, most};
 
 // Writes all rings of the assemblies, worked out in two lists with room.
 fn write_all(
@@ -40,7 +39,7 @@ fn write_all(
     out: &mut [u64],
 ) -> Answer
     requires { ⌜ Listable (membersOf assemblies) (assemblies .count) (length (now found) / words) × Listable (membersOf assemblies) (assemblies .count) (length (now ordered) / words) ⌝ }
-    ensures { λ r. ⌜ outcomeOf (r .number) (r .count) (now (out .exit)) ≡ writtenSets 0 (sort before (foundIn (setsIn (now (rings .entry))) (membersOf assemblies) (assemblies .count))) (now (out .entry)) ⌝ }
+    ensures { λ r. ⌜ outcomeOf (r .number) (r .count) (now (out .exit)) ≡ writtenSets 0 (sort before (ringsFound (setsIn (now (rings .entry))) assemblies)) (now (out .entry)) ⌝ }
 {
     let all = list_rings(rings, assemblies, found, ordered);
     write_sets(ordered, all, out)
@@ -55,8 +54,8 @@ fn write_smallest(
     ordered: &mut [u64],
     out: &mut [u64],
 ) -> Answer
-    requires { ⌜ (count ≤ maxBonds) × Spanned count (foundIn (setsIn (now rings)) (membersOf assemblies) (assemblies .count)) × Listable (membersOf assemblies) (assemblies .count) (length (now found) / words) × Listable (membersOf assemblies) (assemblies .count) (length (now ordered) / words) ⌝ }
-    ensures { λ r. ⌜ outcomeOf (r .number) (r .count) (now (out .exit)) ≡ writtenSets 0 (taking [] (sort before (foundIn (setsIn (now (rings .entry))) (membersOf assemblies) (assemblies .count)))) (now (out .entry)) ⌝ }
+    requires { ⌜ (count ≤ maxBonds) × Spanned count (ringsFound (setsIn (now rings)) assemblies) × Listable (membersOf assemblies) (assemblies .count) (length (now found) / words) × Listable (membersOf assemblies) (assemblies .count) (length (now ordered) / words) ⌝ }
+    ensures { λ r. ⌜ outcomeOf (r .number) (r .count) (now (out .exit)) ≡ writtenSets 0 (taking [] (sort before (ringsFound (setsIn (now (rings .entry))) assemblies))) (now (out .entry)) ⌝ }
 {
     let all = list_rings(rings, assemblies, found, ordered);
     let mut taken = [0u64; BASIS_WORDS];
@@ -67,7 +66,7 @@ fn write_smallest(
 // All rings of the assemblies, where they have few sums.
 fn all_in_few(rings: &[u64; BASIS_WORDS], assemblies: Assemblies, out: &mut [u64]) -> Answer
     requires { ⌜ Listable (membersOf assemblies) (assemblies .count) few ⌝ }
-    ensures { λ r. ⌜ outcomeOf (r .number) (r .count) (now (out .exit)) ≡ writtenSets 0 (sort before (foundIn (setsIn (now (rings .entry))) (membersOf assemblies) (assemblies .count))) (now (out .entry)) ⌝ }
+    ensures { λ r. ⌜ outcomeOf (r .number) (r .count) (now (out .exit)) ≡ writtenSets 0 (sort before (ringsFound (setsIn (now (rings .entry))) assemblies)) (now (out .entry)) ⌝ }
 {
     let mut found = [0u64; FEW * WORDS];
     let mut ordered = [0u64; FEW * WORDS];
@@ -77,7 +76,7 @@ fn all_in_few(rings: &[u64; BASIS_WORDS], assemblies: Assemblies, out: &mut [u64
 // All rings, where the assemblies have many sums.
 fn all_in_many(rings: &[u64; BASIS_WORDS], assemblies: Assemblies, out: &mut [u64]) -> Answer
     requires { ⌜ Listable (membersOf assemblies) (assemblies .count) many ⌝ }
-    ensures { λ r. ⌜ outcomeOf (r .number) (r .count) (now (out .exit)) ≡ writtenSets 0 (sort before (foundIn (setsIn (now (rings .entry))) (membersOf assemblies) (assemblies .count))) (now (out .entry)) ⌝ }
+    ensures { λ r. ⌜ outcomeOf (r .number) (r .count) (now (out .exit)) ≡ writtenSets 0 (sort before (ringsFound (setsIn (now (rings .entry))) assemblies)) (now (out .entry)) ⌝ }
 {
     let mut found = [0u64; MANY * WORDS];
     let mut ordered = [0u64; MANY * WORDS];
@@ -87,7 +86,7 @@ fn all_in_many(rings: &[u64; BASIS_WORDS], assemblies: Assemblies, out: &mut [u6
 // All rings, where the assemblies have as many sums as there may be.
 fn all_in_most(rings: &[u64; BASIS_WORDS], assemblies: Assemblies, out: &mut [u64]) -> Answer
     requires { ⌜ Listable (membersOf assemblies) (assemblies .count) most ⌝ }
-    ensures { λ r. ⌜ outcomeOf (r .number) (r .count) (now (out .exit)) ≡ writtenSets 0 (sort before (foundIn (setsIn (now (rings .entry))) (membersOf assemblies) (assemblies .count))) (now (out .entry)) ⌝ }
+    ensures { λ r. ⌜ outcomeOf (r .number) (r .count) (now (out .exit)) ≡ writtenSets 0 (sort before (ringsFound (setsIn (now (rings .entry))) assemblies)) (now (out .entry)) ⌝ }
 {
     let mut found = [0u64; MOST * WORDS];
     let mut ordered = [0u64; MOST * WORDS];
@@ -101,8 +100,8 @@ fn smallest_in_few(
     assemblies: Assemblies,
     out: &mut [u64],
 ) -> Answer
-    requires { ⌜ (count ≤ maxBonds) × Spanned count (foundIn (setsIn (now rings)) (membersOf assemblies) (assemblies .count)) × Listable (membersOf assemblies) (assemblies .count) few ⌝ }
-    ensures { λ r. ⌜ outcomeOf (r .number) (r .count) (now (out .exit)) ≡ writtenSets 0 (taking [] (sort before (foundIn (setsIn (now (rings .entry))) (membersOf assemblies) (assemblies .count)))) (now (out .entry)) ⌝ }
+    requires { ⌜ (count ≤ maxBonds) × Spanned count (ringsFound (setsIn (now rings)) assemblies) × Listable (membersOf assemblies) (assemblies .count) few ⌝ }
+    ensures { λ r. ⌜ outcomeOf (r .number) (r .count) (now (out .exit)) ≡ writtenSets 0 (taking [] (sort before (ringsFound (setsIn (now (rings .entry))) assemblies))) (now (out .entry)) ⌝ }
 {
     let mut found = [0u64; FEW * WORDS];
     let mut ordered = [0u64; FEW * WORDS];
@@ -116,8 +115,8 @@ fn smallest_in_many(
     assemblies: Assemblies,
     out: &mut [u64],
 ) -> Answer
-    requires { ⌜ (count ≤ maxBonds) × Spanned count (foundIn (setsIn (now rings)) (membersOf assemblies) (assemblies .count)) × Listable (membersOf assemblies) (assemblies .count) many ⌝ }
-    ensures { λ r. ⌜ outcomeOf (r .number) (r .count) (now (out .exit)) ≡ writtenSets 0 (taking [] (sort before (foundIn (setsIn (now (rings .entry))) (membersOf assemblies) (assemblies .count)))) (now (out .entry)) ⌝ }
+    requires { ⌜ (count ≤ maxBonds) × Spanned count (ringsFound (setsIn (now rings)) assemblies) × Listable (membersOf assemblies) (assemblies .count) many ⌝ }
+    ensures { λ r. ⌜ outcomeOf (r .number) (r .count) (now (out .exit)) ≡ writtenSets 0 (taking [] (sort before (ringsFound (setsIn (now (rings .entry))) assemblies))) (now (out .entry)) ⌝ }
 {
     let mut found = [0u64; MANY * WORDS];
     let mut ordered = [0u64; MANY * WORDS];
@@ -131,8 +130,8 @@ fn smallest_in_most(
     assemblies: Assemblies,
     out: &mut [u64],
 ) -> Answer
-    requires { ⌜ (count ≤ maxBonds) × Spanned count (foundIn (setsIn (now rings)) (membersOf assemblies) (assemblies .count)) × Listable (membersOf assemblies) (assemblies .count) most ⌝ }
-    ensures { λ r. ⌜ outcomeOf (r .number) (r .count) (now (out .exit)) ≡ writtenSets 0 (taking [] (sort before (foundIn (setsIn (now (rings .entry))) (membersOf assemblies) (assemblies .count)))) (now (out .entry)) ⌝ }
+    requires { ⌜ (count ≤ maxBonds) × Spanned count (ringsFound (setsIn (now rings)) assemblies) × Listable (membersOf assemblies) (assemblies .count) most ⌝ }
+    ensures { λ r. ⌜ outcomeOf (r .number) (r .count) (now (out .exit)) ≡ writtenSets 0 (taking [] (sort before (ringsFound (setsIn (now (rings .entry))) assemblies))) (now (out .entry)) ⌝ }
 {
     let mut found = [0u64; MOST * WORDS];
     let mut ordered = [0u64; MOST * WORDS];
@@ -150,7 +149,7 @@ fn all_from(
     out: &mut [u64],
 ) -> Answer
     requires { ⌜ Workable (membersOf assemblies) (assemblies .count) sums ⌝ }
-    ensures { λ r. ⌜ outcomeOf (r .number) (r .count) (now (out .exit)) ≡ writtenSets 0 (sort before (foundIn (setsIn (now (rings .entry))) (membersOf assemblies) (assemblies .count))) (now (out .entry)) ⌝ }
+    ensures { λ r. ⌜ outcomeOf (r .number) (r .count) (now (out .exit)) ≡ writtenSets 0 (sort before (ringsFound (setsIn (now (rings .entry))) assemblies)) (now (out .entry)) ⌝ }
 {
     if lengths == 0 {
         return all_in_most(rings, assemblies, out);
@@ -176,8 +175,8 @@ fn smallest_from(
     sums: usize,
     out: &mut [u64],
 ) -> Answer
-    requires { ⌜ (count ≤ maxBonds) × Spanned count (foundIn (setsIn (now rings)) (membersOf assemblies) (assemblies .count)) × Workable (membersOf assemblies) (assemblies .count) sums ⌝ }
-    ensures { λ r. ⌜ outcomeOf (r .number) (r .count) (now (out .exit)) ≡ writtenSets 0 (taking [] (sort before (foundIn (setsIn (now (rings .entry))) (membersOf assemblies) (assemblies .count)))) (now (out .entry)) ⌝ }
+    requires { ⌜ (count ≤ maxBonds) × Spanned count (ringsFound (setsIn (now rings)) assemblies) × Workable (membersOf assemblies) (assemblies .count) sums ⌝ }
+    ensures { λ r. ⌜ outcomeOf (r .number) (r .count) (now (out .exit)) ≡ writtenSets 0 (taking [] (sort before (ringsFound (setsIn (now (rings .entry))) assemblies))) (now (out .entry)) ⌝ }
 {
     if lengths == 0 {
         return smallest_in_most(rings, count, assemblies, out);

@@ -6,8 +6,7 @@ use ordering::order_rings;
 ghost use lib.ListN.{length};
 ghost use Rattle.sets.specs.Lists.{setsIn};
 ghost use Rattle.basis.specs.Held.{membersOf};
-ghost use Rattle.combining.specs.Gibbs.{foundIn};
-ghost use Rattle.lists.specs.Listed.{Listable, Ordered};
+ghost use Rattle.lists.specs.Listed.{ringsFound, Listable, Ordered};
 
 // All rings of the assemblies in order at the start of a list, and how many there are. They are found one assembly after another in another
 // list with room; the one in which they come to stand holds the sums of each assembly before that.
@@ -18,7 +17,7 @@ pub(crate) fn list_rings(
     ordered: &mut [u64],
 ) -> usize
     requires { ⌜ Listable (membersOf assemblies) (assemblies .count) (length (setsIn (now found))) × Listable (membersOf assemblies) (assemblies .count) (length (setsIn (now ordered))) ⌝ }
-    ensures { λ r. ⌜ Ordered (foundIn (setsIn (now (rings .entry))) (membersOf assemblies) (assemblies .count)) (setsIn (now (ordered .exit))) r ⌝ }
+    ensures { λ r. ⌜ Ordered (ringsFound (setsIn (now (rings .entry))) assemblies) (setsIn (now (ordered .exit))) r ⌝ }
 {
     let mut count: usize = 0;
     let mut a: usize = 0;

@@ -38,7 +38,7 @@ use Rattle.combining.proofs.Exactly.{combined-sum}
 use Rattle.ordering.specs.Sizes.{Countable, Tallied}
 use Rattle.ordering.proofs.Sizing.{occurs-le, tallied-higher, Tallying, tallying-none, tallying-more, tallying-all}
 use Rattle.choosing.specs.Elimination.{Choosable, Selected}
-use Rattle.rings.specs.Tally.{mostInOne, mostInAll, Single, Alone, Separate}
+use Rattle.rings.specs.Tally.{mostInOne, mostInAll, Both, Single, Alone, Separate}
 use Rattle.perception.proofs.Perceiving.{all-found-most}
 
 -- as many basis rings are picked as the set of places has
@@ -106,10 +106,6 @@ module _ {sets start counts : List ℕ} {r : ℕ} (t : Tallied sets start 0 coun
   }
 
 -- ---- the sets of a list and what is taken of them in order
-
--- both are counted
-abbrev pub Both : List ℕ → List ℕ → List ℕ → List ℕ → List ℕ → ℕ → Type 0
-Both sets all₀ smallest₀ all smallest r = Tallied sets all₀ 0 all r × Tallied (taking [] (sort before sets)) smallest₀ 0 smallest r
 
 -- with a higher bound
 both-higher : {sets all₀ smallest₀ all smallest : List ℕ} {r : ℕ} (r′ : ℕ) → r ≤ r′ → r′ ≤ allSizes → Both sets all₀ smallest₀ all smallest r

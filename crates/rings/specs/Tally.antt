@@ -2,14 +2,17 @@
 use mathlib.Core.Path.{_≡_}
 use mathlib.Core.Logic.{_≢_}
 use mathlib.Core.Bool.{false}
-use mathlib.Core.List.{List, List·Memᴰ as In}
+use mathlib.Core.List.{List, [], List·Memᴰ as In}
 use Prim.Native.Nat.{ℕ, _*_, _^_, _≤_, _<_}
 use lib.ListN.{getD}
 use Rattle.sets.specs.Bits.{size, meet}
 use Rattle.definitions.specs.Table.{maxBonds}
 use Rattle.definitions.specs.Assembly.{maxAssembly}
-use Rattle.definitions.specs.Search.{picked}
+use Rattle.definitions.specs.Search.{sort, picked}
+use Rattle.definitions.specs.AllRings.{before}
+use Rattle.definitions.specs.Smallest.{taking}
 use Rattle.combining.specs.Gibbs.{combined, foundAt}
+use Rattle.ordering.specs.Sizes.{Tallied}
 
 -- no assembly has more sums of its basis rings
 abbrev pub mostInOne : ℕ
@@ -18,6 +21,10 @@ mostInOne = 2 ^ maxAssembly
 -- nor have all the assemblies that there may be
 abbrev pub mostInAll : ℕ
 mostInAll = maxBonds * mostInOne
+
+-- sets and the smallest basis that is taken of them are counted by size: the counts before and after, and what is above all their sizes
+abbrev pub Both : List ℕ → List ℕ → List ℕ → List ℕ → List ℕ → ℕ → Type 0
+Both sets all₀ smallest₀ all smallest r = Tallied sets all₀ 0 all r × Tallied (taking [] (sort before sets)) smallest₀ 0 smallest r
 
 -- an assembly, given by the places of its basis rings: these are not too many, a list of m sets has room for their sums, and nothing
 -- that the combination finds in it is empty

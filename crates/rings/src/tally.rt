@@ -8,17 +8,14 @@ use ordering::count_sizes;
 use ordering::order_rings;
 use sets::BondSet;
 use sets::RingSet;
-ghost use mathlib.Core.List.{[]};
 ghost use Prim.Native.Nat.{_/_};
 ghost use lib.ListN.{length};
 ghost use Rattle.sets.specs.Ring.{bits};
 ghost use Rattle.sets.specs.Lists.{setsIn, words};
-ghost use Rattle.definitions.specs.Search.{sort, picked};
-ghost use Rattle.definitions.specs.AllRings.{before};
-ghost use Rattle.definitions.specs.Smallest.{taking};
+ghost use Rattle.definitions.specs.Search.{picked};
 ghost use Rattle.combining.specs.Gibbs.{combined};
-ghost use Rattle.ordering.specs.Sizes.{Countable, Tallied};
-ghost use Rattle.rings.specs.Tally.{mostInOne, Single, Alone};
+ghost use Rattle.ordering.specs.Sizes.{Countable};
+ghost use Rattle.rings.specs.Tally.{mostInOne, Single, Alone, Both};
 
 // Counts a ring that is alone in its assembly: it is its own smallest basis.
 pub(crate) fn count_alone(
@@ -28,8 +25,7 @@ pub(crate) fn count_alone(
     smallest: &mut [usize; SIZES],
 ) -> usize
     requires { ⌜ Single (setsIn (now rings)) (bits members) × Countable (now all) mostInOne × Countable (now smallest) mostInOne ⌝ }
-    ensures all { λ r. ⌜ Tallied (combined (picked (setsIn (now (rings .entry))) (bits members))) (now (all .entry)) 0 (now (all .exit)) r ⌝ }
-    ensures smallest { λ r. ⌜ Tallied (taking [] (sort before (combined (picked (setsIn (now (rings .entry))) (bits members))))) (now (smallest .entry)) 0 (now (smallest .exit)) r ⌝ }
+    ensures { λ r. ⌜ Both (combined (picked (setsIn (now (rings .entry))) (bits members))) (now (all .entry)) (now (smallest .entry)) (now (all .exit)) (now (smallest .exit)) r ⌝ }
 {
     let size = BondSet::at(rings, members.next(0)).size();
     all[size] += 1;
@@ -48,8 +44,7 @@ pub(crate) fn count_assembly(
     smallest: &mut [usize; SIZES],
 ) -> usize
     requires { ⌜ Alone (setsIn (now rings)) (bits members) (length (now found) / words) × Alone (setsIn (now rings)) (bits members) (length (now ordered) / words) × Countable (now all) mostInOne × Countable (now smallest) mostInOne ⌝ }
-    ensures all { λ r. ⌜ Tallied (combined (picked (setsIn (now (rings .entry))) (bits members))) (now (all .entry)) 0 (now (all .exit)) r ⌝ }
-    ensures smallest { λ r. ⌜ Tallied (taking [] (sort before (combined (picked (setsIn (now (rings .entry))) (bits members))))) (now (smallest .entry)) 0 (now (smallest .exit)) r ⌝ }
+    ensures { λ r. ⌜ Both (combined (picked (setsIn (now (rings .entry))) (bits members))) (now (all .entry)) (now (smallest .entry)) (now (all .exit)) (now (smallest .exit)) r ⌝ }
 {
     let n = add_assembly(rings, members, ordered, found, 0);
     let top = count_sizes(found, n, all, 0);

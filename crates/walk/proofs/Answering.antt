@@ -6,7 +6,7 @@ use mathlib.Core.Bool.{Bool, true, false, cond, _&&_, _||_, not}
 use mathlib.Core.List.{List, _∷_, map}
 use Prim.Native.Nat.{ℕ, zero, suc, _+_, _≤_, _<_}
 use native.Mathlib.Omega.{arith}
-use lib.Dec.{eqb, leb, ltb}
+use lib.Dec.{eqb, ltb}
 use lib.ListN.{length, take, drop}
 use lib.Seq.{sets-eq, take-at, length-sets}
 use Rattle.sets.specs.Bits.{size}
@@ -14,8 +14,8 @@ use Rattle.definitions.specs.Table.{Table, table, refusal, NOTRING, ROOM}
 use Rattle.definitions.specs.Ring.{degree, ring?}
 use Rattle.definitions.specs.Walk.{otherBond, onward, walkFrom, walkStart, walkOf, walkAtoms, walkBonds}
 use Rattle.definitions.specs.Answer.{Outcome, outcomeOf, over, refusalOfWalk, writtenBoth}
-use Rattle.definitions.proofs.Tests.{not-passed, clashes, same-test, Tells, true-of, false-of, tells-leb, tells-ltb, tells-or, tells-and}
-use Rattle.definitions.proofs.Refusals.{walk-kept, walk-free}
+use Rattle.definitions.proofs.Tests.{not-passed, clashes, same-test, Tells, true-of, false-of, tells-ltb, tells-or}
+use Rattle.definitions.proofs.Refusals.{tells-rooms, walk-kept, walk-free}
 use Rattle.definitions.proofs.Rings.{ring-test}
 use Rattle.answers.proofs.Answers.{outcome-refused, outcome-short, outcome-given}
 use Rattle.table.specs.Ends.{bondsAlone}
@@ -58,25 +58,22 @@ module _ (M : Table) (s : ℕ) (lent : List ℕ × List ℕ) where
   both-refused e h = outcome-refused e _ _ _ lent h
 
   module _ {n c : ℕ} (all : n ≡ size s) (none : 0 ≡ c) where
-    -- there is room as the contract asks for it
-    rooms : Tells (leb (length (walkAtoms M s)) (length (lent .0)) && leb (length (walkBonds M s)) (length (lent .1)))
-        ((length (walkAtoms M s) ≤ length (lent .0)) × (length (walkBonds M s) ≤ length (lent .1)))
-        ((length (lent .0) < length (walkAtoms M s)) ⊎ (length (lent .1) < length (walkBonds M s)))
-    rooms = tells-and (tells-leb (length (walkAtoms M s)) (length (lent .0))) (tells-leb (length (walkBonds M s)) (length (lent .1)))
-
     -- a list is too short
     both-short : short? lent n ≡ true → outcomeOf ROOM 0 lent ≡ answer c
     unfolding writtenBoth
     both-short e =
         outcome-short none _ _ _ lent (omega arith)
-        (not-passed _ (λ r. let (h, k) = rooms .yes-says r in clashes e (false-of (shorts lent n) (omega (arith, atoms-length M s), omega (arith, bonds-length M s)))))
+        (not-passed _ (λ r.
+        let (h, k) = tells-rooms (walkAtoms M s) (walkBonds M s) (lent .0) (lent .1) .yes-says r in
+        clashes e (false-of (shorts lent n) (omega (arith, atoms-length M s), omega (arith, bonds-length M s)))))
 
     -- both are written
     both-given : {l m : List ℕ} → short? lent n ≡ false → l ≡ over (walkAtoms M s) (lent .0) → m ≡ over (walkBonds M s) (lent .1) → outcomeOf 0 n (l, m) ≡ answer c
     unfolding writtenBoth
     both-given e f g =
         let (h, k) = shorts lent n .no-says e in
-        outcome-given none _ _ _ lent (omega arith) (true-of rooms (omega (arith, atoms-length M s), omega (arith, bonds-length M s)))
+        outcome-given none _ _ _ lent (omega arith)
+        (true-of (tells-rooms (walkAtoms M s) (walkBonds M s) (lent .0) (lent .1)) (omega (arith, atoms-length M s), omega (arith, bonds-length M s)))
         (all ∙ sym (atoms-length M s)) (ap₂ (λ (a b : List ℕ). (a, b)) f g)
 
 -- where one does not come round that is told, and where one does, that a list is too short, or what was noted is copied
