@@ -7,6 +7,7 @@
 --     Rings       the tests for even sets and rings; all rings, each once and in order
 --     Classes     things that pairs join have one number, the least of their class
 --     Paths       paths, closure bonds, and the path of forest bonds
+--     Fragments   fragments by paths, and how many there are
 --     Linking     linked basis rings, and the numbering of assemblies
 --     Sweeping    each sweep of the reduced basis changes nothing or lowers the total size
 --     Starred     the starred examples, as one list
@@ -20,6 +21,7 @@ pub mod Refusals
 pub mod Rings
 pub mod Classes
 pub mod Paths
+pub mod Fragments
 pub mod Linking
 pub mod Sweeping
 pub mod Starred

@@ -190,6 +190,21 @@ unfolding count
 count-ext zero p q h = refl
 count-ext (suc n) p q h = ap₂ (λ (x : ℕ) (b : Bool). x + cond b 1 0) (count-ext n p q (λ k l. h k (omega arith))) (h n (omega arith))
 
+-- of two tests that differ at h alone, the one that passes there counts one more
+pub count-differ : (n h : ℕ) (p q : ℕ → Bool) → h < n → p h ≡ true → q h ≡ false → ((k : ℕ) → k < n → k ≢ h → p k ≡ q k) → count n p ≡ count n q + 1
+unfolding count
+count-differ zero h p q l t f same = absurd (omega arith)
+count-differ (suc n) h p q l t f same =
+    by (eqb h n)
+    (λ e.
+    let i = eqb-true h n e in
+    let pass : p n ≡ true = ap p (sym i) ∙ t in
+    let fail : q n ≡ false = ap q (sym i) ∙ f in
+    rw (pass, fail) (omega (arith, count-ext n p q (λ k m. same k (omega arith) (λ j. omega arith)))))
+    (λ e.
+    let ne = eqb-false h n e in
+    rw (same n (omega arith) (λ j. ne (sym j))) (omega (arith, count-differ n h p q (omega arith) t f (λ k m. same k (omega arith)))))
+
 -- ---- what a loop over the numbers that pass gathers
 
 module _ {A : Type 0} (p : ℕ → Bool) (f : ℕ → A) where

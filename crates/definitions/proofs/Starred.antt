@@ -10,6 +10,7 @@ use Rattle.definitions.specs.Search.{every, some?, count, listed, setOf,
 use Rattle.definitions.specs.Table.{Table, table, seenBefore?, firstOf, refusal}
 use Rattle.definitions.specs.Ring.{degree, even?, ring?}
 use Rattle.definitions.specs.Basis.{merge, classes, endsBelow, fragments, closure?, forest, basisRing, basisRings}
+use Rattle.definitions.specs.Fragment.{fragmentOf, fragmentCount}
 use Rattle.definitions.specs.Assembly.{sharing, leaders, rank, assembliesOf, assemblyCount, ringsIn, assemblies, tangled?}
 use Rattle.definitions.specs.AllRings.{before, allRings}
 use Rattle.definitions.specs.Smallest.{chosen, sum?, taking, smallestBasis}
@@ -119,7 +120,7 @@ claims =
     ∷ all s7 (11 ∷ 21 ∷ 38 ∷ 56 ∷ 30 ∷ 45 ∷ 51 ∷ [])
     ∷ smallest s7 (11 ∷ 21 ∷ 38 ∷ [])
     ∷ accepted s8
-    ∷ labelled s8 (0x01 ∷ 0x00 ∷ 0x01 ∷ 0x00 ∷ oneTriangle)
+    ∷ labelled s8 (0x01 ∷ 0x00 ∷ 0x01 ∷ 0x01 ∷ oneTriangle)
     ∷ refused s9 4
     ∷ refused s10 6
     ∷ []
@@ -131,7 +132,7 @@ agree [] = true
 agree (c ∷ cs) = same? (found c) (said c) && agree cs
 
 computed : agree claims ≡ true
-unfolding agree every some? count listed setOf gather keep total unionOf insert sort seenBefore? firstOf refusal degree even? ring? merge classes endsBelow fragments closure? forest basisRing basisRings sharing leaders rank assembliesOf assemblyCount ringsIn assemblies tangled? before allRings chosen sum? taking smallestBasis exchange along across same? sweeps weight reduced reducedBasis bytesOf bytesOfAll field occurs histogram frerejacque pairOf assemblyPairs labelOf refusalOfRings has with without ones onesIn
+unfolding agree every some? count listed setOf gather keep total unionOf insert sort seenBefore? firstOf refusal degree even? ring? merge classes endsBelow fragments closure? forest basisRing basisRings sharing leaders rank assembliesOf assemblyCount ringsIn assemblies tangled? before allRings chosen sum? taking smallestBasis exchange along across same? sweeps weight reduced reducedBasis bytesOf bytesOfAll field occurs histogram fragmentOf fragmentCount frerejacque pairOf assemblyPairs labelOf refusalOfRings has with without ones onesIn
 computed = refl
 
 agreed : (cs : List Claim) → agree cs ≡ true → (c : Claim) → In c cs → found c ≡ said c

@@ -9,6 +9,7 @@ use Rattle.sets.specs.Bits.{size}
 use Rattle.definitions.specs.Search.{gather, keep, sort, unionOf}
 use Rattle.definitions.specs.Table.{Table, bonds, allSizes}
 use Rattle.definitions.specs.Basis.{basisRings}
+use Rattle.definitions.specs.Fragment.{fragmentCount}
 use Rattle.definitions.specs.Assembly.{assemblyCount, ringsIn}
 use Rattle.definitions.specs.AllRings.{allRings}
 use Rattle.definitions.specs.Smallest.{smallestBasis}
@@ -38,9 +39,9 @@ histogram n sets =
     let sizes = map size sets in
     gather allSizes (λ z. let k = occurs z sizes in elim (eqb k 0) [ true ↦ [] | false ↦ z ∷ bytesOf n k ])
 
--- the Frerejacque number of 000: one more than the bonds, less the atoms, and never below 0
+-- the Frerejacque number: bonds - atoms + fragments, with the atoms taken away last, since there may be more of them than bonds
 unfoldable pub frerejacque : Table → ℕ
-frerejacque M = bonds M + 1 - M .atoms
+frerejacque M = bonds M + fragmentCount M - M .atoms
 
 -- what the label says of an assembly: how many basis rings it has, and how many bonds these have together. As one number, with the first in
 -- the high byte, so that numbers rise as such pairs do

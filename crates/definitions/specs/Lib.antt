@@ -4,6 +4,7 @@ pub mod Search
 pub mod Table
 pub mod Ring
 pub mod Basis
+pub mod Fragment
 pub mod Assembly
 pub mod AllRings
 pub mod Smallest

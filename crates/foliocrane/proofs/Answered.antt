@@ -60,7 +60,7 @@ module _ {A : Type 0} (n : ℕ) (new lent : A) where
   outcome-free (suc c) room e = absurd (omega arith)
 
   -- where there is always room the number is the table's
-  outcome-roomy : (c : ℕ) → c ≡ outcome c true n new lent .number
+  pub outcome-roomy : (c : ℕ) → c ≡ outcome c true n new lent .number
   unfolding outcome
   outcome-roomy zero = refl
   outcome-roomy (suc c) = refl

@@ -30,7 +30,7 @@ use Rattle.foliocrane.proofs.foliocrane_reduced_basis.Reads as reduced
 
 module _ (c : Call) (accepted : c .number ≡ 0) where
   -- nothing was wrong
-  bytes-free : (r : ℕ) (bytes : List ℕ) → EndsWith c (written r bytes (c .lent)) → r ≡ 0
+  pub bytes-free : (r : ℕ) (bytes : List ℕ) → EndsWith c (written r bytes (c .lent)) → r ≡ 0
   unfolding written
   bytes-free r bytes h = outcome-free _ _ _ r _ (sym (ap (λ (o : Outcome (List ℕ)). o .number) (h .0)) ∙ accepted)
 

@@ -15,13 +15,14 @@ use Rattle.definitions.specs.Basis.{basisRings}
 use Rattle.definitions.specs.Assembly.{assembliesOf, assemblyCount, ringsIn}
 use Rattle.definitions.specs.AllRings.{allRings}
 use Rattle.definitions.specs.Smallest.{smallestBasis}
-use Rattle.definitions.specs.Label.{bytesOf, bytesOfAll, occurs, histogram, pairOf, assemblyPairs}
+use Rattle.definitions.specs.Label.{bytesOf, bytesOfAll, occurs, histogram, frerejacque, pairOf, assemblyPairs}
 use Rattle.definitions.specs.Answer.{refusalOfRings}
 use Rattle.definitions.proofs.Tests.{not-passed}
 use Rattle.definitions.proofs.Lists.{count-le, getD-in, has-unionOf}
 use Rattle.definitions.proofs.Linking.{first?, assembly-count, rings-in, length-rings-in}
 use Rattle.definitions.proofs.Sorting.{length-sort}
 use Rattle.definitions.proofs.Paths.{few-basis-rings}
+use Rattle.definitions.proofs.Fragments.{frerejacque-is-basis}
 use Rattle.definitions.proofs.Refusals.{accepted, rings-accepted}
 use Rattle.cycles.proofs.BasisList.{basis-ring-in}
 use Rattle.cycles.proofs.Smallest.{smallest-basis-length}
@@ -32,6 +33,10 @@ use Rattle.labels.specs.Sizes.{line}
 use Rattle.labels.proofs.Counting.{line-at-most}
 
 -- ---- the numbers of the label
+
+-- the Frerejacque number is no more than one byte can say
+pub frerejacque-fits : (M : Table) → refusal M ≡ 0 → frerejacque M < 256
+frerejacque-fits M e = omega (arith, frerejacque-is-basis (accepted M .0 e), few-basis-rings M e)
 
 -- no size has more rings than two bytes can say
 pub ring-counts-fit : (M : Table) → refusalOfRings M ≡ 0 → (z : ℕ) → occurs z (map size (allRings M)) < 256 ^ 2

@@ -10,15 +10,7 @@ ghost use Rattle.definitions.specs.Table.{table};
 ghost use Rattle.definitions.specs.Label as spec;
 ghost use Rattle.definitions.specs.Answer.{outcomeOf, written, refusalOfRings};
 
-// The Frerejacque number: how many bonds there are beyond those of a tree over all atoms, or 0 where there are fewer than a tree has.
-fn frerejacque(atoms: u64, bonds: &[u8]) -> u64
-    ensures { λ r. ⌜ r ≡ spec.frerejacque (table atoms (now (bonds .entry))) ⌝ }
-{
-    let more = (bonds.len() / 2 + 1) as u64;
-    if more < atoms { 0 } else { more - atoms }
-}
-
-// The label: four fields, from the rings, the smallest basis and the assemblies.
+// The label: four fields, from the number of basis rings, which is the Frerejacque number, the rings, the smallest basis and the assemblies.
 pub fn label(atoms: u64, bonds: &[u8], out: &mut [u8]) -> Answer
     ensures answer { λ r. ⌜ outcomeOf (r .number) (r .count) (now (out .exit)) ≡ written (refusalOfRings (table atoms (now (bonds .entry)))) (spec.labelOf (table atoms (now (bonds .entry)))) (now (out .entry)) ⌝ }
     ensures read { λ r. ⌜ now (bonds .exit) ≡ now (bonds .entry) ⌝ }
@@ -34,7 +26,7 @@ pub fn label(atoms: u64, bonds: &[u8], out: &mut [u8]) -> Answer
         };
     }
     let numbers = Numbers {
-        frerejacque: frerejacque(atoms, bonds),
+        frerejacque: counts.basis as u64,
         top: counts.top,
         pairs: counts.pairs,
     };

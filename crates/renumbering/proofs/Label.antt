@@ -4,23 +4,23 @@ use mathlib.Core.Path.{_≡_, refl, sym, ap, ap₂, subst, _∙_}
 use mathlib.Core.Logic.{_≢_}
 use mathlib.Core.Bool.{Bool, true, false, cond}
 use mathlib.Core.List.{List, [], _∷_, _++_, map}
-use Prim.Native.Nat.{ℕ, zero, suc, _+_, _-_}
+use Prim.Native.Nat.{ℕ, zero, suc, _+_}
 use lib.ListN.{length}
 use lib.Seq.{take-append-seam}
 use lib.Dec.{eqb, leb}
 use borrow.Author.Tests.{eqb-true, eqb-false}
 use Rattle.sets.specs.Bits.{size}
 use Rattle.definitions.specs.Table.{Table, maxBonds, refusal, TANGLED, ROOM}
-use Rattle.definitions.specs.Label.{bytesOf, bytesOfAll, field, occurs, histogram, frerejacque, frerejacqueTag, ringsTag, smallestTag, assembliesTag, labelOf}
+use Rattle.definitions.specs.Label.{bytesOf, bytesOfAll, field, occurs, histogram, frerejacqueTag, ringsTag, smallestTag, assembliesTag, labelOf}
 use Rattle.definitions.specs.Answer.{Outcome, over, outcome, written, refusalOfRings}
 use Rattle.definitions.proofs.Tests.{by}
 use Rattle.definitions.proofs.Lists.{gather-ext}
 use Rattle.definitions.proofs.Refusals.{Valid, accepted, rings-kept, rings-free, rings-accepted}
 use Rattle.renumbering.specs.Renumbered.{Renumbered, InRange, Agree}
-use Rattle.renumbering.proofs.Tables.{same-bonds}
 use Rattle.renumbering.proofs.Refusals.{refusals-of-renumbered}
 use Rattle.renumbering.proofs.Rings.{rings-of-renumbered, sizes-of-renumbered}
 use Rattle.renumbering.proofs.Assemblies.{pairs-of-renumbered, tangled-of-renumbered}
+use Rattle.renumbering.proofs.Fragments.{frerejacque-of-renumbered}
 
 -- lists with as many sets of each size have one histogram
 pub histogram-same : (n : ℕ) (l m : List ℕ) → ((z : ℕ) → occurs z (map size l) ≡ occurs z (map size m)) → histogram n l ≡ histogram n m
@@ -29,16 +29,11 @@ histogram-same n l m h =
     gather-ext (maxBonds + 1) _ _ (λ z i. ap (λ (k : ℕ). elim (eqb k 0) [ true ↦ [] | false ↦ z ∷ bytesOf n k ]) (h z))
 
 module _ {M N : Table} (r : Renumbered M N) (inside : InRange M) where
-  -- the Frerejacque numbers agree
-  pub frerejacque-of-renumbered : frerejacque M ≡ frerejacque N
-  unfolding frerejacque
-  frerejacque-of-renumbered = ap₂ (λ (m n : ℕ). m + 1 - n) (same-bonds r) (r .atoms)
-
   -- the labels of accepted tables agree in every byte
   pub label-same : Valid M → labelOf M ≡ labelOf N
   unfolding labelOf
   label-same v =
-      ap₂ _++_ (ap (λ (n : ℕ). field frerejacqueTag (n ∷ [])) frerejacque-of-renumbered)
+      ap₂ _++_ (ap (λ (n : ℕ). field frerejacqueTag (n ∷ [])) (frerejacque-of-renumbered r v))
       (ap₂ _++_ (ap (field ringsTag) (histogram-same 2 _ _ (rings-of-renumbered r inside)))
       (ap₂ _++_ (ap (field smallestTag) (histogram-same 1 _ _ (sizes-of-renumbered r inside)))
       (ap (λ l. field assembliesTag (bytesOfAll 2 l)) (pairs-of-renumbered r v))))

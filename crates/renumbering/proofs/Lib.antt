@@ -6,6 +6,7 @@
 --     Sets          even sets are carried to even sets, rings to rings
 --     Rings         the numbers of rings of each size agree, and the sizes in every smallest basis
 --     Assemblies    the assemblies correspond: their bonds, their numbers of basis rings, refusal 7
+--     Fragments     there are as many fragments, and the Frerejacque numbers agree
 --     Label         the label's answers agree
 --     Example       a renumbering of S4 that changes all three
 pub mod Matching
@@ -15,5 +16,6 @@ pub mod Refusals
 pub mod Sets
 pub mod Rings
 pub mod Assemblies
+pub mod Fragments
 pub mod Label
 pub mod Example

@@ -15,15 +15,12 @@ count-rings-requires c κs = (cleared, cleared, omega arith)
 returns : tie.Need-returns
 returns c = (label-refused (c .before .before .before .count-rings .ensures) _ (c .if1 .taken), refl)
 
-frerejacque-requires : tie.Need-frerejacque-requires
-frerejacque-requires c κs = search needs
-
 slice-aggregate-write-label : tie.Need-slice-aggregate-write-label
 slice-aggregate-write-label c = search needs
 
 write-label-requires : tie.Need-write-label-requires
 write-label-requires c κs =
-    let counts = c .before .before .before .before .before .before .before .before in
+    let counts = c .before .before .before .before .before .before .before in
     let told = counted (counts .count-rings .ensures) (omega arith) in
     (sizes-none (told .rings), sizes-none (told .chosen), omega (arith, told .few))
 
@@ -33,9 +30,8 @@ same-length c = search needs
 returns-2 : tie.Need-returns-2
 returns-2 c =
     let told = c .before .before in
-    let number = told .before .before .before .before .before in
-    let counts = number .before .before .before .before in
-    (label-written (counts .count-rings .ensures) (omega arith) _ (number .frerejacque .ensures) (told .write-label .ensures), refl)
+    let counts = told .before .before .before .before .before .before .before .before in
+    (label-written (counts .count-rings .ensures) (omega arith) _ (told .write-label .ensures), refl)
 
 pub label-spec : {M : Type 1} → statement M
 label-spec =
@@ -44,7 +40,6 @@ label-spec =
     slice-aggregate-count-rings
     count-rings-requires
     returns
-    frerejacque-requires
     slice-aggregate-write-label
     write-label-requires
     same-length
