@@ -68,8 +68,9 @@ foliocrane_answer foliocrane_smallest_basis(uint64_t atoms, const uint8_t *bonds
    6,456 bytes. */
 foliocrane_answer foliocrane_reduced_basis(uint64_t atoms, const uint8_t *bonds, size_t bonds_len, uint64_t *out, size_t out_len);
 
-/* The label: it depends on the molecule and not on the numbering. At most 512 bytes. Stack: 9,080 bytes with few sums, at most
-   24,552. */
+/* The label: it depends on the molecule and not on the numbering. Its field 01 is bonds - atoms + fragments, an atom without bonds being a
+   fragment too: the number of basis rings. Earlier versions wrote bonds - atoms + 1 there, or 0 where that is negative, so that their labels
+   differ in it for tables of several fragments that have a ring. At most 512 bytes. Stack: 9,064 bytes with few sums, at most 24,536. */
 foliocrane_answer foliocrane_label(uint64_t atoms, const uint8_t *bonds, size_t bonds_len, uint8_t *out, size_t out_len);
 
 /* The sidecar: the reduced basis in a field of its own. At most 515 bytes. Stack: 5,928 bytes. */

@@ -185,9 +185,9 @@ pub fn sizes(sets: &[u64]) -> Vec<(u8, usize)> {
         .collect()
 }
 
-/// Bonds - atoms + 1, or 0 where that is negative.
-fn frerejacque(table: &Table) -> u8 {
-    (table.bonds().len() as i64 - table.atoms as i64 + 1).max(0) as u8
+/// Bonds - atoms + fragments, or 0 where so few fragments are given that it is negative.
+pub fn frerejacque(table: &Table, fragments: usize) -> u8 {
+    (table.bonds().len() + fragments).saturating_sub(table.atoms as usize) as u8
 }
 
 fn label(table: &Table, found: &Found) -> Vec<u8> {
@@ -217,7 +217,7 @@ fn label(table: &Table, found: &Found) -> Vec<u8> {
         .flat_map(|&(rings, bonds)| [rings, bonds])
         .collect();
     [
-        field(1, vec![frerejacque(table)]),
+        field(1, vec![frerejacque(table, Graph::of(table).fragments())]),
         field(2, all),
         field(3, smallest),
         field(4, assemblies),

@@ -115,7 +115,6 @@ pub fn examples() -> Vec<Example> {
         ..Values::default()
     };
     add("S7", table(4, "0-1 0-2 0-3 1-2 1-3 2-3"), s7);
-    let label = Some("0100010002000303000103000203010400020103");
     add(
         "S8",
         table(4, "0-1 1-2 2-0"),

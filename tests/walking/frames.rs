@@ -112,6 +112,15 @@ fn several(sketch: &Sketch, times: usize) -> Sketch {
     all
 }
 
+/// Sodium benzoate: a ring of six with a carboxylate, and an ion of one atom.
+fn sodium_benzoate() -> Sketch {
+    let mut sketch = Sketch::ring(6);
+    sketch.chain(0, 2);
+    sketch.chain(6, 1);
+    sketch.beside(&Sketch::of_atoms(1));
+    sketch
+}
+
 /// Frames at the ends of what the limits allow, and well-known ones.
 pub fn known() -> Vec<Sketch> {
     let dodecahedron = petersen(10, 2);
@@ -139,6 +148,9 @@ pub fn known() -> Vec<Sketch> {
         longest,
         spiro_row(21),
         several(&Sketch::ring(4), 16),
+        several(&Sketch::line(2), 32),
+        sodium_benzoate(),
+        several(&sodium_benzoate(), 6),
         adamantane(),
     ]
 }
@@ -214,6 +226,20 @@ pub fn grown(random: &mut Random) -> Sketch {
     };
     for _ in 0..random.within(1, 14) {
         sketch.grow(random);
+    }
+    sketch
+}
+
+/// A salt of two to many fragments, ions of one atom among them.
+pub fn salt(random: &mut Random) -> Sketch {
+    let mut sketch = Sketch::default();
+    for _ in 0..random.pick(&[2, 2, 3, 4, 8, 20, 64]) {
+        let ion = match random.below(4) {
+            0 | 1 => Sketch::of_atoms(1),
+            2 => Sketch::line(random.within(2, 5)),
+            _ => grown(random),
+        };
+        sketch.beside(&ion);
     }
     sketch
 }

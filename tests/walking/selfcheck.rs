@@ -3,7 +3,7 @@
 use crate::answers::{lookup, outcome, sizes, smallest_basis, Found, ROOM, TANGLED};
 use crate::damaged::{all_sets_of_faults, at_the_edges};
 use crate::examples::{examples, Example};
-use crate::frames::{cages, complete, grown, hypercube, tangled};
+use crate::frames::{cages, complete, grown, hypercube, salt, tangled};
 use crate::framing::example;
 use crate::lists::Lists;
 use crate::protocol::{hex, Program, Search};
@@ -61,9 +61,10 @@ pub fn run(seed: u64) -> bool {
         }
     }
     for turn in 0..2_000 {
-        let sketch = match turn % 3 {
+        let sketch = match turn % 4 {
             0 => grown(&mut random),
             1 => cages(&mut random),
+            2 => salt(&mut random),
             _ => tangled(&mut random),
         };
         other_ways(&mut report, &sketch.table(), &mut random);
@@ -303,6 +304,13 @@ fn by_definition(report: &mut Report, table: &Table) {
             .filter(|(_, &(a, b))| a == atom || b == atom);
         on_atom.filter(|(bond, _)| set >> bond & 1 == 1).count()
     };
+    let left_by_none = (0..1u64 << graph.atoms).filter(|atoms| {
+        let mut ends = graph.ends.iter();
+        ends.all(|&(a, b)| atoms >> a & 1 == atoms >> b & 1)
+    });
+    report.check(left_by_none.count() == 1 << graph.fragments(), || {
+        format!("a set of fragments is left by no bond: {}", table.shown())
+    });
     let even: Vec<u64> = (1..1u64 << graph.ends.len())
         .filter(|&set| (0..graph.atoms).all(|atom| meets(set, atom) % 2 == 0))
         .collect();
@@ -364,6 +372,9 @@ fn other_ways(report: &mut Report, table: &Table, random: &mut Random) {
     );
     report.check(found.smallest.len() == how_many, || {
         format!("length of the smallest basis: {}", table.shown())
+    });
+    report.check(usize::from(found.label[3]) == how_many, || {
+        format!("field 01 and the basis rings: {}", table.shown())
     });
     by_words(report, table, &found.all, random);
 }

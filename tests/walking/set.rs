@@ -3,11 +3,11 @@
 use crate::answers::Found;
 use crate::damaged::{all_sets_of_faults, at_the_edges};
 use crate::examples::examples;
-use crate::frames::{cages, grown, known, long, scattered, tangled};
+use crate::frames::{cages, grown, known, long, salt, scattered, tangled};
 use crate::framing::streams;
 use crate::protocol::{looked_up, record_bytes, walk_bytes, Program, MOST_ROOM};
 use crate::random::Random;
-use crate::table::{turn_some, Table};
+use crate::table::{turn_some, Table, MOST_ATOMS};
 use crate::walks::walks;
 use std::rc::Rc;
 
@@ -159,12 +159,13 @@ impl Set {
     /// A random table of a random kind; one in four keeps the order of its construction.
     fn random_table(&mut self) {
         let random = &mut self.random;
-        let (note, sketch) = match random.below(20) {
+        let (note, sketch) = match random.below(22) {
             0..=2 => ("scattered bonds", scattered(random, 64)),
             3..=4 => ("dense bonds", scattered(random, 14)),
             5..=10 => ("grown molecule", grown(random)),
             11..=15 => ("cages", cages(random)),
             16..=17 => ("long chain or ring", long(random)),
+            18..=19 => ("salt", salt(random)),
             _ => ("about ten basis rings", tangled(random)),
         };
         let table = if random.once_in(4) {
@@ -173,6 +174,13 @@ impl Set {
             sketch.table().renumbered(random)
         };
         self.add_with_twin(note, table, Rooms::Some(1), 5);
+    }
+
+    /// Atoms without bonds, as many as are allowed and one more.
+    fn atoms_without_bonds(&mut self) {
+        for atoms in 1..=MOST_ATOMS + 1 {
+            self.add("atoms without bonds", Table::new(atoms, &[]), Rooms::Every);
+        }
     }
 
     /// Known frames with every room about their answers' lengths.
@@ -217,6 +225,7 @@ pub fn cases(wanted: &Wanted) -> Vec<Case> {
         });
     }
     set.frames_with_every_room();
+    set.atoms_without_bonds();
     set.small_graphs();
     let mut random = Random::new(set.random.word());
     for damaged in at_the_edges() {

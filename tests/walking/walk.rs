@@ -53,6 +53,27 @@ impl Graph {
         bonds_to[to]
     }
 
+    /// How many fragments there are: one for each atom from which a flood starts, since none before has reached it.
+    pub fn fragments(&self) -> usize {
+        let mut reached = vec![false; self.atoms];
+        let mut floods = 0;
+        for start in 0..self.atoms {
+            floods += usize::from(!reached[start]);
+            let mut edge = vec![start];
+            while let Some(at) = edge.pop() {
+                if !std::mem::replace(&mut reached[at], true) {
+                    edge.extend(self.steps[at].iter().map(|step| step.to));
+                }
+            }
+        }
+        floods
+    }
+
+    /// How many atoms no bond meets.
+    pub fn lone_atoms(&self) -> usize {
+        self.steps.iter().filter(|steps| steps.is_empty()).count()
+    }
+
     /// The bonds whose two atoms are already joined by a path of lower-numbered bonds.
     pub fn closure_bonds(&self) -> Vec<usize> {
         (0..self.ends.len())

@@ -1,7 +1,7 @@
 //! Errors put into the search on demand, to see that a comparison reports them (planted.rs). Among them are the traps of
 //! docs/REFERENCE.md. Those of the size lookup are put in where its lines are made (lists.rs), those of walks by astray.rs.
 
-use crate::answers::{by_assembly, reduced_basis, smallest_basis, Found};
+use crate::answers::{by_assembly, frerejacque, reduced_basis, smallest_basis, Found};
 use crate::astray::Astray::{self, *};
 use crate::protocol::Program;
 use crate::table::Table;
@@ -19,7 +19,8 @@ pub enum Wrong {
     TwiceOneWay,
     NumberOrder,
     SpiroTogether,
-    FragmentsCounted,
+    TakenForOneFragment,
+    LoneAtomsLeftOut,
     BondLost,
     PairsUnsorted,
     ExactFitRefused,
@@ -34,7 +35,7 @@ pub enum Wrong {
 use Wrong::*;
 
 /// The errors by the names that `--wrong` takes.
-pub const ERRORS: [(&str, Wrong); 36] = [
+pub const ERRORS: [(&str, Wrong); 37] = [
     ("gibbs-on-reduced", GibbsOnReduced),
     ("literal-step", LiteralStep),
     ("cut-to-ten", CutToTen),
@@ -45,7 +46,8 @@ pub const ERRORS: [(&str, Wrong); 36] = [
     ("twice-one-way", TwiceOneWay),
     ("number-order", NumberOrder),
     ("spiro-together", SpiroTogether),
-    ("fragments-counted", FragmentsCounted),
+    ("taken-for-one-fragment", TakenForOneFragment),
+    ("lone-atoms-left-out", LoneAtomsLeftOut),
     ("bond-lost", BondLost),
     ("pairs-unsorted", PairsUnsorted),
     ("exact-fit-refused", ExactFitRefused),
@@ -115,7 +117,11 @@ impl Wrong {
         }
         found.write_fields(table);
         match self {
-            FragmentsCounted => found.label[3] = found.basis.len() as u8,
+            TakenForOneFragment => found.label[3] = frerejacque(table, 1),
+            LoneAtomsLeftOut => {
+                let graph = Graph::of(table);
+                found.label[3] = frerejacque(table, graph.fragments() - graph.lone_atoms());
+            }
             PairsUnsorted => unsort_pairs(found),
             _ => {}
         }
