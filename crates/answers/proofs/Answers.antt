@@ -13,9 +13,9 @@ use native.Mathlib.Omega.{arith}
 use lib.ListN.{length}
 use borrow.Author.Tests.{le-leb, lt-leb}
 use Rattle.sets.specs.Lists.{in_words, words_of}
-use Rattle.sets.proofs.Lists.{in-words-length}
+use Rattle.sets.proofs.Lists.{in_words-length}
 use Rattle.definitions.specs.Table.{ROOM}
-use Rattle.definitions.specs.Answer.{Outcome, outcomeOf, outcome, over, written, writtenSets, counted}
+use Rattle.definitions.specs.Answer.{Outcome, outcome_of, outcome, over, written, written_sets, counted}
 
 -- a number above 0 comes after one
 above_zero : (c : ℕ) → 0 < c → (d : ℕ) × (c ≡ suc d)
@@ -24,65 +24,65 @@ above_zero (suc d) h = (d, refl)
 
 module _ {A : Type 0} {r c : ℕ} (given : r ≡ c) (room : Bool) (n : ℕ) (new lent : A) where
   -- a refusal has count 0, and what was lent is left
-  pub outcome-refused : 0 < r → outcomeOf r 0 lent ≡ outcome c room n new lent
+  pub outcome-refused : 0 < r → outcome_of r 0 lent ≡ outcome c room n new lent
   unfolding outcome
   outcome-refused h = rw (given, (above_zero c (omega arith)).1)
 
   -- too little room is refusal 8
-  pub outcome-short : r ≤ 0 → room ≡ false → outcomeOf ROOM 0 lent ≡ outcome c room n new lent
+  pub outcome_short : r ≤ 0 → room ≡ false → outcome_of ROOM 0 lent ≡ outcome c room n new lent
   unfolding outcome
-  outcome-short h e = let none : c ≡ 0 = omega arith in rw (none, e)
+  outcome_short h e = let none : c ≡ 0 = omega arith in rw (none, e)
 
   -- what is given is counted and left
-  pub outcome-given : {k : ℕ} {left : A} → r ≤ 0 → room ≡ true → k ≡ n → left ≡ new → outcomeOf 0 k left ≡ outcome c room n new lent
+  pub outcome-given : {k : ℕ} {left : A} → r ≤ 0 → room ≡ true → k ≡ n → left ≡ new → outcome_of 0 k left ≡ outcome c room n new lent
   unfolding outcome
   outcome-given h e q w = let none : c ≡ 0 = omega arith in rw (none, e, q, w)
 
 module _ (wanted lent : List ℕ) {r c : ℕ} (given : r ≡ c) where
-  pub is-refused : 0 < r → outcomeOf r 0 lent ≡ written c wanted lent
+  pub is_refused : 0 < r → outcome_of r 0 lent ≡ written c wanted lent
   unfolding written
-  is-refused h = outcome-refused given _ _ _ lent h
+  is_refused h = outcome-refused given _ _ _ lent h
 
-  pub is-accepted : r ≤ 0 → {found : List ℕ} {o : Outcome (List ℕ)} → found ≡ wanted → o ≡ written 0 found lent → o ≡ written c wanted lent
-  is-accepted h e w = let none : 0 ≡ c = omega arith in w ∙ ap₂ (λ (d : ℕ) (l : List ℕ). written d l lent) none e
+  pub is_accepted : r ≤ 0 → {found : List ℕ} {o : Outcome (List ℕ)} → found ≡ wanted → o ≡ written 0 found lent → o ≡ written c wanted lent
+  is_accepted h e w = let none : 0 ≡ c = omega arith in w ∙ ap₂ (λ (d : ℕ) (l : List ℕ). written d l lent) none e
 
   module _ {n : ℕ} (accepted : r ≤ 0) (count : n ≡ length wanted) where
-    pub is-short : length lent < n → outcomeOf ROOM 0 lent ≡ written c wanted lent
+    pub is_short : length lent < n → outcome_of ROOM 0 lent ≡ written c wanted lent
     unfolding written
-    is-short h = outcome-short given _ _ _ lent accepted (lt-leb (length wanted) (length lent) (omega arith))
+    is_short h = outcome_short given _ _ _ lent accepted (lt-leb (length wanted) (length lent) (omega arith))
 
-    pub is-full : {left : List ℕ} → n ≤ length lent → left ≡ over wanted lent → outcomeOf 0 n left ≡ written c wanted lent
+    pub is_full : {left : List ℕ} → n ≤ length lent → left ≡ over wanted lent → outcome_of 0 n left ≡ written c wanted lent
     unfolding written
-    is-full h e = outcome-given given _ _ _ lent accepted (le-leb (length wanted) (length lent) (omega arith)) count e
+    is_full h e = outcome-given given _ _ _ lent accepted (le-leb (length wanted) (length lent) (omega arith)) count e
 
 module _ (wanted lent : List ℕ) {r c : ℕ} (given : r ≡ c) where
-  pub sets-refused : 0 < r → outcomeOf r 0 lent ≡ writtenSets c wanted lent
-  unfolding writtenSets
+  pub sets-refused : 0 < r → outcome_of r 0 lent ≡ written_sets c wanted lent
+  unfolding written_sets
   sets-refused h = outcome-refused given _ _ _ lent h
 
-  pub sets-accepted : r ≤ 0 → {found : List ℕ} {o : Outcome (List ℕ)} → found ≡ wanted → o ≡ writtenSets 0 found lent → o ≡ writtenSets c wanted lent
-  sets-accepted h e w = let none : 0 ≡ c = omega arith in w ∙ ap₂ (λ (d : ℕ) (l : List ℕ). writtenSets d l lent) none e
+  pub sets-accepted : r ≤ 0 → {found : List ℕ} {o : Outcome (List ℕ)} → found ≡ wanted → o ≡ written_sets 0 found lent → o ≡ written_sets c wanted lent
+  sets-accepted h e w = let none : 0 ≡ c = omega arith in w ∙ ap₂ (λ (d : ℕ) (l : List ℕ). written_sets d l lent) none e
 
   module _ {n : ℕ} (accepted : r ≤ 0) (count : n ≡ length wanted) where
-    pub sets-short : length lent < words_of n → outcomeOf ROOM 0 lent ≡ writtenSets c wanted lent
-    unfolding writtenSets
-    sets-short h =
-        outcome-short given _ _ _ lent accepted
-        (lt-leb (length (in_words wanted)) (length lent) (rw (in-words-length wanted ∙ ap words_of (sym count)) h))
+    pub sets_short : length lent < words_of n → outcome_of ROOM 0 lent ≡ written_sets c wanted lent
+    unfolding written_sets
+    sets_short h =
+        outcome_short given _ _ _ lent accepted
+        (lt-leb (length (in_words wanted)) (length lent) (rw (in_words-length wanted ∙ ap words_of (sym count)) h))
 
-    pub sets-full : {left : List ℕ} → words_of n ≤ length lent → left ≡ over (in_words wanted) lent → outcomeOf 0 n left ≡ writtenSets c wanted lent
-    unfolding writtenSets
-    sets-full h e =
+    pub sets_full : {left : List ℕ} → words_of n ≤ length lent → left ≡ over (in_words wanted) lent → outcome_of 0 n left ≡ written_sets c wanted lent
+    unfolding written_sets
+    sets_full h e =
         outcome-given given _ _ _ lent accepted
-        (le-leb (length (in_words wanted)) (length lent) (rw (in-words-length wanted ∙ ap words_of (sym count)) h)) count e
+        (le-leb (length (in_words wanted)) (length lent) (rw (in_words-length wanted ∙ ap words_of (sym count)) h)) count e
 
 module _ (n : ℕ) {r c : ℕ} (given : r ≡ c) where
   -- a refusal of the table check has count 0
-  pub check-refused : 0 < r → outcomeOf r 0 [] ≡ counted c n
+  pub check_refused : 0 < r → outcome_of r 0 [] ≡ counted c n
   unfolding counted
-  check-refused h = outcome-refused given _ _ _ _ h
+  check_refused h = outcome-refused given _ _ _ _ h
 
   -- an accepted table's count is what is counted
-  pub check-counted : {k : ℕ} → r ≤ 0 → k ≡ n → outcomeOf 0 k [] ≡ counted c n
+  pub check_counted : {k : ℕ} → r ≤ 0 → k ≡ n → outcome_of 0 k [] ≡ counted c n
   unfolding counted
-  check-counted h e = outcome-given given _ _ _ _ h refl e refl
+  check_counted h e = outcome-given given _ _ _ _ h refl e refl

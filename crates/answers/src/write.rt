@@ -1,7 +1,7 @@
 // Sets written over the start of a lent list, each as its words.
 ghost use Rattle.std.specs.Prelude.{◌≡◌, take};
-ghost use Rattle.sets.specs.Lists.{setsIn};
-ghost use Rattle.definitions.specs.Answer.{outcomeOf, writtenSets};
+ghost use Rattle.sets.specs.Lists.{sets_in};
+ghost use Rattle.definitions.specs.Answer.{outcome_of, written_sets};
 
 use super::answer::{Answer, ROOM};
 use sets::BondSet;
@@ -9,7 +9,7 @@ use sets::list::{sets_in, sets_up_to};
 
 // Writes the first count sets of a list, or all where it has no more, and none where the lent list is too short for them.
 pub fn write_sets(sets: &[u64], count: usize, out: &mut [u64]) -> Answer
-    ensures { outcomeOf result.number result.count out.new ≡ writtenSets 0 (take count (setsIn sets.now)) out.old }
+    ensures { outcome_of result.number result.count out.new ≡ written_sets 0 (take count (sets_in sets.now)) out.old }
 {
     let wanted = sets_up_to(sets, count);
     if sets_in(out) < wanted {

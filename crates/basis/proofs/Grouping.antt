@@ -15,43 +15,43 @@ use Rattle.sets.specs.Bits.{has, Sub, meet, put, without, IsNext, size}
 use Rattle.sets.specs.Ring.{room}
 use Rattle.sets.proofs.Laws.{has-or, has-zero, has-with, has-without}
 use Rattle.sets.proofs.Size.{size-sub, sub_same}
-use Rattle.sets.proofs.Members.{common, apart, meet-of}
-use Rattle.sets.proofs.Machine.{put-below}
+use Rattle.sets.proofs.Members.{common, apart, meet_of}
+use Rattle.sets.proofs.Machine.{put_below}
 use Rattle.definitions.specs.Assembly.{Linked}
 use Rattle.definitions.specs.Assembly.Linked.{same, by as shares}
-use Rattle.definitions.proofs.Tests.{by, clashes, eqb-self, and_both, same_test, or-one}
-use Rattle.definitions.proofs.Linking.{linked-trans}
-use Rattle.definitions.proofs.Passing.{Passed, passed-next}
-use Rattle.basis.specs.Clusters.{Group, joinedBy, Grouped, Apart, Pass}
-use Rattle.basis.proofs.Putting.{put-new, put-old, put-from}
+use Rattle.definitions.proofs.Tests.{by, clashes, eqb_self, and_both, same_test, or-one}
+use Rattle.definitions.proofs.Linking.{linked_trans}
+use Rattle.definitions.proofs.Passing.{Passed, passed_next}
+use Rattle.basis.specs.Clusters.{Group, joined_by, Grouped, Apart, Pass}
+use Rattle.basis.proofs.Putting.{put_new, put_old, put_from}
 
 -- a ring that is left is one of those looked at, and no member
-left-all : {rs : List ℕ} {first all : ℕ} {g : Group} → Grouped rs first all g → (i : ℕ) → has g.left i ≡ true → has all i ≡ true
-left-all {all = all} {g = g} q i h = (and_both (has all i) (not (has g.members i)) (sym (q.other i) ∙ h)).0
+left_all : {rs : List ℕ} {first all : ℕ} {g : Group} → Grouped rs first all g → (i : ℕ) → has g.left i ≡ true → has all i ≡ true
+left_all {all = all} {g = g} q i h = (and_both (has all i) (not (has g.members i)) (sym (q.other i) ∙ h)).0
 
 -- a ring of a set less one is one of the set
-pub without-old : (s k j : ℕ) → has (without s k) j ≡ true → has s j ≡ true
-without-old s k j e = (and_both (has s j) (not (eqb k j)) (sym (has-without s k j) ∙ e)).0
+pub without_old : (s k j : ℕ) → has (without s k) j ≡ true → has s j ≡ true
+without_old s k j e = (and_both (has s j) (not (eqb k j)) (sym (has-without s k j) ∙ e)).0
 
 -- ---- one ring starts a group
 
-pub grouped-one : (rs : List ℕ) (first all : ℕ) {m b l : ℕ} → ((i : ℕ) → has all i ≡ true → i < length rs) → has all first ≡ true → first < room
+pub grouped_one : (rs : List ℕ) (first all : ℕ) {m b l : ℕ} → ((i : ℕ) → has all i ≡ true → i < length rs) → has all first ≡ true → first < room
     → m ≡ put room 0 first → b ≡ get_or rs first 0 → l ≡ without all first → Grouped rs first all (record { members = m; bonds = b; left = l })
-grouped-one rs first all inside h l em eb el = rw (em, eb, el) (record {
+grouped_one rs first all inside h l em eb el = rw (em, eb, el) (record {
   inside = inside;
-  start = put-new room 0 first l;
+  start = put_new room 0 first l;
   member = λ i o. rw (only i o) (h, same, λ k t. t);
-  bond = λ k t. (first, put-new room 0 first l, t);
+  bond = λ k t. (first, put_new room 0 first l, t);
   other = λ i. has-without all first i ∙ ap (λ (x : Bool). has all i && not x) (alone i);
 })
   where
     only : (i : ℕ) → has (put room 0 first) i ≡ true → i ≡ first
-    only i m = ⊎_elim (λ z. clashes z (has-zero i)) (λ (q, _). q) (put-from room 0 first i m)
+    only i m = ⊎_elim (λ z. clashes z (has-zero i)) (λ (q, _). q) (put_from room 0 first i m)
 
     alone : (i : ℕ) → eqb first i ≡ has (put room 0 first) i
     alone i =
         same_test (eqb first i) (has (put room 0 first) i)
-        (λ t. rw (← (eqb-true first i t)) (put-new room 0 first l))
+        (λ t. rw (← (eqb-true first i t)) (put_new room 0 first l))
         (λ t. eq-eqb first i (sym (only i t)))
 
 -- ---- a ring joins
@@ -62,36 +62,36 @@ neither true false c = refl
 neither false b c = refl
 
 -- a ring that shares a bond is taken in, any other leaves the group as it is
-pub joined-takes : (g : Group) (i s : ℕ) {m b l : ℕ} {t : Bool} → t ≡ meet s g.bonds → t ≡ true
+pub joined_takes : (g : Group) (i s : ℕ) {m b l : ℕ} {t : Bool} → t ≡ meet s g.bonds → t ≡ true
     → m ≡ put room g.members i → b ≡ bit_or g.bonds s → l ≡ without g.left i
-    → ◌≡◌ {A = Group} (record { members = m; bonds = b; left = l }) (joinedBy g i s)
-joined-takes g i s e h em eb el = rw (sym e ∙ h, em, eb, el)
+    → ◌≡◌ {A = Group} (record { members = m; bonds = b; left = l }) (joined_by g i s)
+joined_takes g i s e h em eb el = rw (sym e ∙ h, em, eb, el)
 
-pub joined-leaves : (g : Group) (i s : ℕ) {t : Bool} → t ≡ meet s g.bonds → t ≡ false → g ≡ joinedBy g i s
-joined-leaves g i s e h = rw (sym e ∙ h)
+pub joined_leaves : (g : Group) (i s : ℕ) {t : Bool} → t ≡ meet s g.bonds → t ≡ false → g ≡ joined_by g i s
+joined_leaves g i s e h = rw (sym e ∙ h)
 
 -- a ring that is left and shares a bond with the group is linked with the first
-joins-linked : {rs : List ℕ} {first all : ℕ} {g : Group} → Grouped rs first all g
+joins_linked : {rs : List ℕ} {first all : ℕ} {g : Group} → Grouped rs first all g
     → (i : ℕ) → has g.left i ≡ true → meet (get_or rs i 0) g.bonds ≡ true → Linked rs first i
-joins-linked {rs} {first} {all} {g} q i h e =
+joins_linked {rs} {first} {all} {g} q i h e =
     let (k, a, b) = common (get_or rs i 0) g.bonds e in
     let (j, m, c) = q.bond k b in
     let (in_all, linked, _) = q.member j m in
-    linked-trans linked (shares (q.inside j in_all) (q.inside i (left-all q i h)) (meet-of (get_or rs j 0) (get_or rs i 0) k c a) same)
+    linked_trans linked (shares (q.inside j in_all) (q.inside i (left_all q i h)) (meet_of (get_or rs j 0) (get_or rs i 0) k c a) same)
 
-pub grouped-join : {rs : List ℕ} {first all : ℕ} {g : Group} → Grouped rs first all g
+pub grouped_join : {rs : List ℕ} {first all : ℕ} {g : Group} → Grouped rs first all g
     → (i : ℕ) → i < room → has g.left i ≡ true → meet (get_or rs i 0) g.bonds ≡ true
     → Grouped rs first all (record { members = put room g.members i; bonds = bit_or g.bonds (get_or rs i 0); left = without g.left i })
-grouped-join {rs} {first} {all} {g} q i l h e = record {
+grouped_join {rs} {first} {all} {g} q i l h e = record {
   inside = q.inside;
-  start = put-old room g.members i first q.start;
+  start = put_old room g.members i first q.start;
   member = λ j m.
-      ⊎_elim (λ o. old j (q.member j o)) (λ (z, _). rw z (left-all q i h, joins-linked q i h e, λ k t. or_right k t))
-      (put-from room g.members i j m);
-  bond = λ k t. ⊎_elim (λ o. let (j, m, c) = q.bond k o in (j, put-old room g.members i j m, c)) (λ c. (i, put-new room g.members i l, c))
+      ⊎_elim (λ o. old j (q.member j o)) (λ (z, _). rw z (left_all q i h, joins_linked q i h e, λ k t. or_right k t))
+      (put_from room g.members i j m);
+  bond = λ k t. ⊎_elim (λ o. let (j, m, c) = q.bond k o in (j, put_old room g.members i j m, c)) (λ c. (i, put_new room g.members i l, c))
       (or-one (has g.bonds k) (has (get_or rs i 0) k) (sym (has-or g.bonds (get_or rs i 0) k) ∙ t));
   other = λ j. has-without g.left i j ∙ ap (λ (b : Bool). b && not (eqb i j)) (q.other j) ∙ neither (has all j) (has g.members j) (eqb i j)
-      ∙ ap (λ (b : Bool). has all j && not b) (sym (ap (λ (s : ℕ). has s j) (put-below room g.members i l) ∙ has-with g.members i j));
+      ∙ ap (λ (b : Bool). has all j && not b) (sym (ap (λ (s : ℕ). has s j) (put_below room g.members i l) ∙ has-with g.members i j));
 }
   where
     or_left : (k : ℕ) → has g.bonds k ≡ true → has (bit_or g.bonds (get_or rs i 0)) k ≡ true
@@ -113,9 +113,9 @@ pub record Passing (rs : List ℕ) (g h : Group) (i : ℕ) : Type 0 where
   pub fewer : Sub h.left g.left
   pub seen : h.left ≡ g.left → (j : ℕ) → j < i → has h.left j ≡ true → meet (get_or rs j 0) h.bonds ≡ false
 
-pub passing-none : (rs : List ℕ) (g : Group) {i : ℕ} → IsNext room g.left 0 i → Passing rs g g i
-passing-none rs g n = record {
-  next = passed-next n;
+pub passing_none : (rs : List ℕ) (g : Group) {i : ℕ} → IsNext room g.left 0 i → Passing rs g g i
+passing_none rs g n = record {
+  next = passed_next n;
   kept = λ first all q. q;
   fewer = λ j e. e;
   seen = λ z j l e. clashes e (n.none j (omega arith) l);
@@ -123,22 +123,22 @@ passing-none rs g n = record {
 
 module _ {rs : List ℕ} {g h : Group} {i : ℕ} (p : Passing rs g h i) (l : i < room) where
   -- ring i joins: the rings left are not those before the pass
-  passing-joins : {q : ℕ} → meet (get_or rs i 0) h.bonds ≡ true → IsNext room (without h.left i) (i + 1) q
+  passing_joins : {q : ℕ} → meet (get_or rs i 0) h.bonds ≡ true → IsNext room (without h.left i) (i + 1) q
       → Passing rs g (record { members = put room h.members i; bonds = bit_or h.bonds (get_or rs i 0); left = without h.left i }) q
-  passing-joins {q} e n = record {
-    next = passed-next n;
-    kept = λ first all o. grouped-join (p.kept first all o) i l (p.next.member l) e;
-    fewer = λ j t. p.fewer j (without-old h.left i j t);
+  passing_joins {q} e n = record {
+    next = passed_next n;
+    kept = λ first all o. grouped_join (p.kept first all o) i l (p.next.member l) e;
+    fewer = λ j t. p.fewer j (without_old h.left i j t);
     seen = λ z. clashes (p.fewer i (p.next.member l)) (ap (λ (s : ℕ). has s i) (sym z) ∙ gone);
   }
     where
       gone : has (without h.left i) i ≡ false
-      gone = has-without h.left i i ∙ ap (λ (b : Bool). has h.left i && not b) (eqb-self i) ∙ and-false (has h.left i)
+      gone = has-without h.left i i ∙ ap (λ (b : Bool). has h.left i && not b) (eqb_self i) ∙ and-false (has h.left i)
 
   -- ring i does not join
-  passing-stays : {q : ℕ} → meet (get_or rs i 0) h.bonds ≡ false → IsNext room h.left (i + 1) q → Passing rs g h q
-  passing-stays {q} e n = record {
-    next = passed-next n;
+  passing_stays : {q : ℕ} → meet (get_or rs i 0) h.bonds ≡ false → IsNext room h.left (i + 1) q → Passing rs g h q
+  passing_stays {q} e n = record {
+    next = passed_next n;
     kept = p.kept;
     fewer = p.fewer;
     seen = λ z j m t.
@@ -146,19 +146,19 @@ module _ {rs : List ℕ} {g h : Group} {i : ℕ} (p : Passing rs g h i) (l : i <
         (λ b. by (eqb j i) (λ c. rw (eqb-true j i c) e) (λ c. clashes t (n.none j (omega (arith, ltb-false j i b, eqb-false j i c)) m)));
   }
 
-  pub passing-turn : {h' : Group} {s q : ℕ} → s ≡ get_or rs i 0 → h' ≡ joinedBy h i s → IsNext room h'.left (i + 1) q → Passing rs g h' q
-  passing-turn {h'} {s} {q} es eh n =
+  pub passing_turn : {h' : Group} {s q : ℕ} → s ≡ get_or rs i 0 → h' ≡ joined_by h i s → IsNext room h'.left (i + 1) q → Passing rs g h' q
+  passing_turn {h'} {s} {q} es eh n =
       by (meet (get_or rs i 0) h.bonds)
-      (λ e. let z = to e in rw z (passing-joins e (rw z at n)))
-      (λ e. let z = to e in rw z (passing-stays e (rw z at n)))
+      (λ e. let z = to e in rw z (passing_joins e (rw z at n)))
+      (λ e. let z = to e in rw z (passing_stays e (rw z at n)))
     where
       to : {b : Bool} → meet (get_or rs i 0) h.bonds ≡ b
           → h' ≡ cond b (record { members = put room h.members i; bonds = bit_or h.bonds (get_or rs i 0); left = without h.left i }) h
       to e = eh ∙ rw (es, e)
 
 -- all rings left were looked at
-pub passing-all : {rs : List ℕ} {g h : Group} {i n : ℕ} → ((j : ℕ) → has g.left j ≡ true → j < n) → n ≤ i → Passing rs g h i → Pass rs g h
-passing-all below l p = record { kept = p.kept; fewer = p.fewer; done = λ z j e. p.seen z j (omega (arith, below j (p.fewer j e))) e }
+pub passing_all : {rs : List ℕ} {g h : Group} {i n : ℕ} → ((j : ℕ) → has g.left j ≡ true → j < n) → n ≤ i → Passing rs g h i → Pass rs g h
+passing_all below l p = record { kept = p.kept; fewer = p.fewer; done = λ z j e. p.seen z j (omega (arith, below j (p.fewer j e))) e }
 
 -- ---- passes until one adds nothing
 
@@ -168,21 +168,21 @@ pub record Collecting (rs : List ℕ) (first : ℕ) (g h : Group) (grew : Bool) 
   pub fewer : Sub h.left g.left
   pub apart : grew ≡ false → Apart rs h
 
-pub collecting-none : (rs : List ℕ) (first : ℕ) (g : Group) → Collecting rs first g g true
-collecting-none rs first g = record { kept = λ all q. q; fewer = λ j e. e; apart = λ e. absurd (true≢false e) }
+pub collecting_none : (rs : List ℕ) (first : ℕ) (g : Group) → Collecting rs first g g true
+collecting_none rs first g = record { kept = λ all q. q; fewer = λ j e. e; apart = λ e. absurd (true≢false e) }
 
 -- a pass that leaves as many rings has left all as they were
-pub collecting-more : {rs : List ℕ} {first : ℕ} {g h h' : Group} {grew : Bool} {m n : ℕ} → Collecting rs first g h grew → Pass rs h h'
+pub collecting_more : {rs : List ℕ} {first : ℕ} {g h h' : Group} {grew : Bool} {m n : ℕ} → Collecting rs first g h grew → Pass rs h h'
     → n ≡ size h.left → m ≡ size h'.left → Collecting rs first g h' (ltb m n)
-collecting-more {h = h} {h' = h'} {m = m} {n = n} c p en em = record {
+collecting_more {h = h} {h' = h'} {m = m} {n = n} c p en em = record {
   kept = λ all q. p.kept _ all (c.kept all q);
   fewer = λ j e. c.fewer j (p.fewer j e);
   apart = λ e. p.done (sub_same h'.left h.left p.fewer (omega (arith, size-sub h'.left h.left p.fewer, ltb-false m n e)));
 }
 
 -- what is left to do falls: the rings left, and one pass more where the last grew the group
-pub collecting-less : {rs : List ℕ} {h h' : Group} {grew : Bool} {m n : ℕ} → grew ≡ true → Pass rs h h' → n ≡ size h.left → m ≡ size h'.left
+pub collecting_less : {rs : List ℕ} {h h' : Group} {grew : Bool} {m n : ℕ} → grew ≡ true → Pass rs h h' → n ≡ size h.left → m ≡ size h'.left
     → size h'.left + cond (ltb m n) 1 0 < size h.left + cond grew 1 0
-collecting-less {h = h} {h' = h'} {m = m} {n = n} t p en em =
+collecting_less {h = h} {h' = h'} {m = m} {n = n} t p en em =
     let low = size-sub h'.left h.left p.fewer in
     rw t (by (ltb m n) (λ e. rw e (omega (arith, ltb-true m n e))) (λ e. rw e (omega arith)))

@@ -9,23 +9,23 @@ use lib.Dec.{eqb, ltb}
 use lib.ListN.{length, get_or, replicate}
 use lib.Seq.{get_or-take}
 use Rattle.sets.specs.Bits.{has, size}
-use Rattle.sets.specs.Ring.{bits, noRings, room}
+use Rattle.sets.specs.Ring.{bits, no_rings, room}
 use Rattle.sets.specs.declared.ring.RingSet.{RingSet}
-use Rattle.sets.specs.Lists.{setsIn, words}
+use Rattle.sets.specs.Lists.{sets_in, words}
 use Rattle.sets.proofs.Lists.{sets-blank}
-use Rattle.sets.proofs.Machine.{no-rings}
+use Rattle.sets.proofs.Machine.{no_rings_lem}
 use Rattle.sets.proofs.Laws.{has-zero}
 use Rattle.definitions.specs.Search.{picked, gather}
-use Rattle.definitions.specs.Table.{Table, refusal, maxBonds}
-use Rattle.definitions.specs.Basis.{basisRings}
-use Rattle.definitions.specs.Assembly.{assemblies, assemblyCount, ringsIn}
-use Rattle.definitions.specs.Answer.{outcomeOf, counted}
+use Rattle.definitions.specs.Table.{Table, refusal, max_bonds}
+use Rattle.definitions.specs.Basis.{basis_rings}
+use Rattle.definitions.specs.Assembly.{assemblies, assembly_count, rings_in}
+use Rattle.definitions.specs.Answer.{outcome_of, counted}
 use Rattle.definitions.proofs.Tests.{by, clashes, and_both}
-use Rattle.definitions.proofs.Lists.{has-setOf, size-setOf, listed-ext, gather_ext, get_d_map, getD-same}
-use Rattle.definitions.proofs.Passing.{listed-gap}
-use Rattle.definitions.proofs.Linking.{number, length-assemblies, length-rings-in}
-use Rattle.answers.proofs.Answers.{check-refused, check-counted}
-use Rattle.basis.specs.Held.{ringsOf, Holds, BasisOf, members_of, AssembliesOf}
+use Rattle.definitions.proofs.Lists.{has-set_of, size-set_of, listed_ext, gather_ext, get_d_map, get_or-same}
+use Rattle.definitions.proofs.Passing.{listed_gap}
+use Rattle.definitions.proofs.Linking.{number, length-assemblies, length-rings_in}
+use Rattle.answers.proofs.Answers.{check_refused, check_counted}
+use Rattle.basis.specs.Held.{rings_of, Holds, BasisOf, members_of, AssembliesOf}
 use Rattle.basis.specs.declared.basis.Basis.{Basis}
 use Rattle.basis.specs.declared.assembly.Assemblies.{Assemblies}
 
@@ -33,23 +33,23 @@ use Rattle.basis.specs.declared.assembly.Assemblies.{Assemblies}
 
 module _ {M : Table} {b : Basis} (h : Holds M b) where
   -- ring i is the set at place i
-  pub ring-at : (i : ℕ) → i < b.count → get_or (setsIn b.rings) i 0 ≡ get_or (basisRings M) i 0
-  ring-at i l = sym (get_or-take b.count (setsIn b.rings) i 0 l) ∙ ap (λ (rs : List ℕ). get_or rs i 0) h.rings
+  pub ring-at : (i : ℕ) → i < b.count → get_or (sets_in b.rings) i 0 ≡ get_or (basis_rings M) i 0
+  ring-at i l = sym (get_or-take b.count (sets_in b.rings) i 0 l) ∙ ap (λ (rs : List ℕ). get_or rs i 0) h.rings
 
   -- the assemblies of its rings are those of the table
-  pub held-assemblies : {s : Assemblies} → AssembliesOf (ringsOf b) s → AssembliesOf (basisRings M) s
-  held-assemblies p = rw h.rings at p
+  pub held_assemblies : {s : Assemblies} → AssembliesOf (rings_of b) s → AssembliesOf (basis_rings M) s
+  held_assemblies p = rw h.rings at p
 
   -- each ring has one
   pub assemblies-counted : b.count ≡ length (assemblies M)
   unfolding assemblies
-  assemblies-counted = h.count ∙ sym (length-assemblies (basisRings M))
+  assemblies-counted = h.count ∙ sym (length-assemblies (basis_rings M))
 
 -- of a refused table there is nothing
-pub basis-refused : {M : Table} {number : ℕ} → number ≡ refusal M → 0 < number → BasisOf M (record { number = number; rings = replicate (maxBonds * words) 0; count = 0 })
+pub basis-refused : {M : Table} {number : ℕ} → number ≡ refusal M → 0 < number → BasisOf M (record { number = number; rings = replicate (max_bonds * words) 0; count = 0 })
 basis-refused given h = record {
   number = given;
-  refused = λ n. (refl, λ i. ap (λ (l : List ℕ). get_or l i 0) (sets-blank maxBonds) ∙ getD-same maxBonds i 0);
+  refused = λ n. (refl, λ i. ap (λ (l : List ℕ). get_or l i 0) (sets-blank max_bonds) ∙ get_or-same max_bonds i 0);
   accepted = λ z. absurd (omega arith);
 }
 
@@ -59,21 +59,21 @@ basis-accepted given h held = record { number = given; refused = λ n. absurd (n
 
 module _ {M : Table} {b : Basis} (h : BasisOf M b) where
   -- no refusal is given: the basis rings are held
-  pub basis-held : b.number ≤ 0 → Holds M b
-  basis-held z = h.accepted (omega (arith, h.number))
+  pub basis_held : b.number ≤ 0 → Holds M b
+  basis_held z = h.accepted (omega (arith, h.number))
 
   -- the number and the count are those of the table check
-  pub basis-told : outcomeOf b.number b.count [] ≡ counted (refusal M) (length (basisRings M))
+  pub basis-told : outcome_of b.number b.count [] ≡ counted (refusal M) (length (basis_rings M))
   basis-told =
       by (eqb (refusal M) 0)
       (λ t. let e : b.number ≡ 0 = h.number ∙ eqb-true (refusal M) 0 t in
-      ap (λ (n : ℕ). outcomeOf n b.count []) e ∙ check-counted _ h.number (omega arith) (basis-held (omega arith)).count)
+      ap (λ (n : ℕ). outcome_of n b.count []) e ∙ check_counted _ h.number (omega arith) (basis_held (omega arith)).count)
       (λ t. let n = eqb-false (refusal M) 0 t in
-      ap (λ (k : ℕ). outcomeOf b.number k []) (h.refused n).0 ∙ check-refused _ h.number (omega (arith, h.number)))
+      ap (λ (k : ℕ). outcome_of b.number k []) (h.refused n).0 ∙ check_refused _ h.number (omega (arith, h.number)))
 
 -- two hold the same: as many rings, and the same sets at every place
 abbrev pub SameRings : Basis → Basis → Type 0
-SameRings b c = (b.count ≡ c.count) × ((i : ℕ) → get_or (setsIn b.rings) i 0 ≡ get_or (setsIn c.rings) i 0)
+SameRings b c = (b.count ≡ c.count) × ((i : ℕ) → get_or (sets_in b.rings) i 0 ≡ get_or (sets_in c.rings) i 0)
 
 -- two that hold the basis rings of one table do
 pub holds_same : {M : Table} {b c : Basis} → Holds M b → Holds M c → SameRings b c
@@ -94,24 +94,24 @@ basis-same {M} {b} {c} h k =
 -- ---- Assemblies
 
 -- the set of assembly a is the one at place a
-pub members-at : (sets : List RingSet) (a : ℕ) → get_or (map bits sets) a 0 ≡ bits (get_or sets a noRings)
-members-at sets a = get_d_map bits sets a noRings 0 no-rings
+pub members-at : (sets : List RingSet) (a : ℕ) → get_or (map bits sets) a 0 ≡ bits (get_or sets a no_rings)
+members-at sets a = get_d_map bits sets a no_rings 0 no_rings_lem
 
 module _ {rs : List ℕ} {s : Assemblies} (h : AssembliesOf rs s) where
   -- the set of assembly a has the rings whose assembly is a
   pub members-has : (a i : ℕ) → a < s.count → has (get_or (members_of s) a 0) i ≡ ltb i (length rs) && eqb (number rs i) a
-  members-has a i l = ap (λ (t : ℕ). has t i) (h.members a l) ∙ has-setOf (length rs) (λ j. eqb (number rs j) a) i
+  members-has a i l = ap (λ (t : ℕ). has t i) (h.members a l) ∙ has-set_of (length rs) (λ j. eqb (number rs j) a) i
 
   -- so each of its rings is one of the list
-  pub members-below : (a i : ℕ) → has (get_or (members_of s) a 0) i ≡ true → i < length rs
-  members-below a i e =
+  pub members_below : (a i : ℕ) → has (get_or (members_of s) a 0) i ≡ true → i < length rs
+  members_below a i e =
       by (ltb a s.count)
       (λ t. ltb-true i (length rs) (and_both (ltb i (length rs)) (eqb (number rs i) a) (sym (members-has a i (ltb-true a s.count t)) ∙ e)).0)
       (λ t. clashes e (ap (λ (m : ℕ). has m i) (h.blank a (ltb-false a s.count t)) ∙ has-zero i))
 
   -- it has as many rings as the assembly
-  pub members-size : (a : ℕ) → a < s.count → size (get_or (members_of s) a 0) ≡ length (ringsIn rs a)
-  members-size a l = ap size (h.members a l) ∙ size-setOf (length rs) (λ i. eqb (number rs i) a) ∙ sym (length-rings-in rs a)
+  pub members-size : (a : ℕ) → a < s.count → size (get_or (members_of s) a 0) ≡ length (rings_in rs a)
+  members-size a l = ap size (h.members a l) ∙ size-set_of (length rs) (λ i. eqb (number rs i) a) ∙ sym (length-rings_in rs a)
 
 -- two hold the same: as many assemblies, and the same sets at every place
 abbrev pub SameAssemblies : Assemblies → Assemblies → Type 0
@@ -128,30 +128,30 @@ assemblies-same {s = s} h k =
 
 -- ---- both
 
-module _ {M : Table} {b : Basis} {s : Assemblies} (h : Holds M b) (p : AssembliesOf (basisRings M) s) where
+module _ {M : Table} {b : Basis} {s : Assemblies} (h : Holds M b) (p : AssembliesOf (basis_rings M) s) where
   -- the basis rings of an assembly stand at the places that its set names
-  pub picked-rings : (a : ℕ) → a < s.count → picked (setsIn b.rings) (get_or (members_of s) a 0) ≡ ringsIn (basisRings M) a
-  unfolding ringsIn
+  pub picked-rings : (a : ℕ) → a < s.count → picked (sets_in b.rings) (get_or (members_of s) a 0) ≡ rings_in (basis_rings M) a
+  unfolding rings_in
   picked-rings a l =
-      listed-gap (has set) ring n room (omega (arith, h.count, h.counted)) (λ k m j. members-has p a k l ∙ ap (λ (t : Bool). t && q k) (le-ltb k n m))
-      ∙ listed-ext n (has set) q ring (λ i. get_or (basisRings M) i 0) (λ k m. members-has p a k l ∙ ap (λ (t : Bool). t && q k) (lt-ltb k n m))
+      listed_gap (has set) ring n room (omega (arith, h.count, h.counted)) (λ k m j. members-has p a k l ∙ ap (λ (t : Bool). t && q k) (le-ltb k n m))
+      ∙ listed_ext n (has set) q ring (λ i. get_or (basis_rings M) i 0) (λ k m. members-has p a k l ∙ ap (λ (t : Bool). t && q k) (lt-ltb k n m))
       (λ k m t. ring-at h k (omega (arith, h.count)))
     where
       n : ℕ
-      n = length (basisRings M)
+      n = length (basis_rings M)
 
       set : ℕ
       set = get_or (members_of s) a 0
 
       q : ℕ → Bool
-      q i = eqb (number (basisRings M) i) a
+      q i = eqb (number (basis_rings M) i) a
 
       ring : ℕ → ℕ
-      ring i = get_or (setsIn b.rings) i 0
+      ring i = get_or (sets_in b.rings) i 0
 
   -- so what is made of them, one assembly after another, is made of the assemblies of the table
   pub picked_all : {A : Type 0} (f : List ℕ → List A)
-      → gather s.count (λ a. f (picked (setsIn b.rings) (get_or (members_of s) a 0))) ≡ gather (assemblyCount (basisRings M)) (λ a. f (ringsIn (basisRings M) a))
+      → gather s.count (λ a. f (picked (sets_in b.rings) (get_or (members_of s) a 0))) ≡ gather (assembly_count (basis_rings M)) (λ a. f (rings_in (basis_rings M) a))
   picked_all f =
-      gather_ext s.count _ (λ a. f (ringsIn (basisRings M) a)) (λ a l. ap f (picked-rings a l))
-      ∙ ap (λ (n : ℕ). gather n (λ a. f (ringsIn (basisRings M) a))) p.count
+      gather_ext s.count _ (λ a. f (rings_in (basis_rings M) a)) (λ a l. ap f (picked-rings a l))
+      ∙ ap (λ (n : ℕ). gather n (λ a. f (rings_in (basis_rings M) a))) p.count

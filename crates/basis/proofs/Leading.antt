@@ -11,16 +11,16 @@ use lib.ListN.{length, get_or, set}
 use lib.Seq.{get_or-set_same, get_or-set_other}
 use lib.Dec.{eqb}
 use borrow.Author.Tests.{eqb-true, eqb-false}
-use Rattle.definitions.specs.Table.{Table, maxAtoms}
-use Rattle.definitions.specs.Basis.{classes, endsBelow, fragments}
+use Rattle.definitions.specs.Table.{Table, max_atoms}
+use Rattle.definitions.specs.Basis.{classes, ends_below, fragments}
 use Rattle.definitions.proofs.Tests.{by}
-use Rattle.definitions.proofs.Classes.{merged, merged-other, merged-either, label-none}
+use Rattle.definitions.proofs.Classes.{merged, merged_other, merged_either, label_none}
 use Rattle.basis.specs.Climbing.{Falling, Climbed, Climbs}
 use Rattle.basis.specs.Climbing.Climbed.{start, on}
 
 -- no atom leads to a higher one, also where one is led anew
-pub set-falling : (lower : List ℕ) (a b : ℕ) → a < length lower → b ≤ a → Falling lower → Falling (set lower a b)
-set-falling lower a b l h falls i m =
+pub set_falling : (lower : List ℕ) (a b : ℕ) → a < length lower → b ≤ a → Falling lower → Falling (set lower a b)
+set_falling lower a b l h falls i m =
     by (eqb i a)
     (λ e. rw (eqb-true i a e, get_or-set_same lower a b 0 l) h)
     (λ e. rw (get_or-set_other lower a i b 0 (eqb-false i a e)) (falls i m))
@@ -40,18 +40,18 @@ leads-same {lower = lower} next s step = record {
 -- ---- the start: each atom leads to itself
 
 -- one atom more
-pub own-more : (lower : List ℕ) (a : ℕ) → a < length lower → ((i : ℕ) → i < a → get_or lower i 0 ≡ i) → (i : ℕ) → i < a + 1 → get_or (set lower a a) i 0 ≡ i
-own-more lower a l own i h =
+pub own_more : (lower : List ℕ) (a : ℕ) → a < length lower → ((i : ℕ) → i < a → get_or lower i 0 ≡ i) → (i : ℕ) → i < a + 1 → get_or (set lower a a) i 0 ≡ i
+own_more lower a l own i h =
     by (eqb i a)
     (λ e. rw (eqb-true i a e) (get_or-set_same lower a a 0 l))
     (λ e. get_or-set_other lower a i a 0 (eqb-false i a e) ∙ own i (omega (arith, eqb-false i a e)))
 
 -- with no bond tried each atom is the first of its fragment
-pub own-leads : (M : Table) (lower : List ℕ) → ((a : ℕ) → a < M.atoms → get_or lower a 0 ≡ a) → Leads M.atoms lower (fragments M 0)
-unfolding fragments endsBelow
-own-leads M lower own = record {
+pub own_leads : (M : Table) (lower : List ℕ) → ((a : ℕ) → a < M.atoms → get_or lower a 0 ≡ a) → Leads M.atoms lower (fragments M 0)
+unfolding fragments ends_below
+own_leads M lower own = record {
   together = λ a h. ap (λ (x : ℕ). get_or (classes M.atoms []) x 0) (own a h);
-  own = λ a h e. label-none M.atoms a h;
+  own = λ a h e. label_none M.atoms a h;
 }
 
 -- ---- the climb
@@ -62,38 +62,38 @@ pub climbed-on : {lower ways : List ℕ} {atom a w s r : ℕ} → Climbed lower 
 climbed-on c h e f = rw (f, e) (on c h)
 
 -- it comes to lower atoms
-pub climbed-low : {lower ways : List ℕ} {atom a w : ℕ} → Climbed lower ways atom a w → a ≤ atom
-climbed-low start = omega arith
-climbed-low (on c h) = omega (arith, climbed-low c)
+pub climbed_low : {lower ways : List ℕ} {atom a w : ℕ} → Climbed lower ways atom a w → a ≤ atom
+climbed_low start = omega arith
+climbed_low (on c h) = omega (arith, climbed_low c)
 
 -- of the same number
 climbed-number : {lower ways numbers : List ℕ} {n atom a w : ℕ} → Leads n lower numbers → atom < n → Climbed lower ways atom a w
     → get_or numbers a 0 ≡ get_or numbers atom 0
 climbed-number s l start = refl
-climbed-number s l (on {a = a} c h) = s.together a (omega (arith, climbed-low c)) ∙ climbed-number s l c
+climbed-number s l (on {a = a} c h) = s.together a (omega (arith, climbed_low c)) ∙ climbed-number s l c
 
 -- it ends at an atom that leads to no lower one
-pub climbed-last : {lower ways : List ℕ} {atom a w : ℕ} → Climbed lower ways atom a w → Falling lower → atom < maxAtoms → a ≤ get_or lower a 0
+pub climbed-last : {lower ways : List ℕ} {atom a w : ℕ} → Climbed lower ways atom a w → Falling lower → atom < max_atoms → a ≤ get_or lower a 0
     → Climbs lower ways atom a w
-climbed-last {a = a} c falls l h = record { climbed = c; last = omega (arith, falls a (omega (arith, climbed-low c))) }
+climbed-last {a = a} c falls l h = record { climbed = c; last = omega (arith, falls a (omega (arith, climbed_low c))) }
 
 -- so at the number of the atom
-pub climbs-number : {lower ways numbers : List ℕ} {n atom r w : ℕ} → Leads n lower numbers → atom < n → Climbs lower ways atom r w → r ≡ get_or numbers atom 0
-climbs-number {r = r} s l c =
-    sym (s.own r (omega (arith, climbed-low c.climbed)) c.last) ∙ climbed-number s l c.climbed
+pub climbs_number : {lower ways numbers : List ℕ} {n atom r w : ℕ} → Leads n lower numbers → atom < n → Climbs lower ways atom r w → r ≡ get_or numbers atom 0
+climbs_number {r = r} s l c =
+    sym (s.own r (omega (arith, climbed_low c.climbed)) c.last) ∙ climbed-number s l c.climbed
 
 -- ---- an atom led straight to the first of its fragment
 
 module _ {n : ℕ} {lower numbers : List ℕ} (s : Leads n lower numbers) {a x : ℕ} (inside : a < length lower) (low : x < n) (last : get_or lower x 0 ≡ x) (number : x ≡ get_or numbers a 0) where
   -- an atom that leads to itself does so still
-  pub settled-last : (z : ℕ) → z < n → get_or lower z 0 ≡ z → get_or (set lower a x) z 0 ≡ z
-  settled-last z h e =
+  pub settled_last : (z : ℕ) → z < n → get_or lower z 0 ≡ z → get_or (set lower a x) z 0 ≡ z
+  settled_last z h e =
       by (eqb z a)
       (λ t. rw (eqb-true z a t) (get_or-set_same lower a x 0 inside ∙ number ∙ (rw (eqb-true z a t) at (s.own z h e))))
       (λ t. get_or-set_other lower a z x 0 (eqb-false z a t) ∙ e)
 
-  pub settled-leads : Leads n (set lower a x) numbers
-  settled-leads = record {
+  pub settled_leads : Leads n (set lower a x) numbers
+  settled_leads = record {
     together = λ i h.
         by (eqb i a)
         (λ t. rw (eqb-true i a t, get_or-set_same lower a x 0 inside) (s.own x low last ∙ number))
@@ -127,11 +127,11 @@ module _ (lower : List ℕ) (x y : ℕ) (inside : max x y < length lower) where
 
     -- both first atoms have the number of the lower one
     next_low : (z : ℕ) → (z ≡ max x y) ⊎ (z ≡ min x y) → get_or next z 0 ≡ min x y
-    next_low z w = step z ∙ ap (merged x y) (either z w) ∙ merged-either x y z (sides x y z w)
+    next_low z w = step z ∙ ap (merged x y) (either z w) ∙ merged_either x y z (sides x y z w)
 
     -- the list leads by the numbers of the fragments that are one
-    pub joined-leads : Leads n (set lower (max x y) (min x y)) next
-    joined-leads = record {
+    pub joined_leads : Leads n (set lower (max x y) (min x y)) next
+    joined_leads = record {
       together = λ a h.
           by (eqb a (max x y))
           (λ e. rw (eqb-true a (max x y) e, high) (next_low (min x y) (inr refl) ∙ sym (next_low (max x y) (inl refl))))
@@ -139,5 +139,5 @@ module _ (lower : List ℕ) (x y : ℕ) (inside : max x y < length lower) where
       own = λ a h e.
           by (eqb a (max x y))
           (λ t. rw (eqb-true a (max x y) t) (next_low (max x y) (inl refl) ∙ sym high ∙ (rw (eqb-true a (max x y) t) at e)))
-          (λ t. step a ∙ ap (merged x y) (s.own a h (sym (other a t) ∙ e)) ∙ merged-other x y a t);
+          (λ t. step a ∙ ap (merged x y) (s.own a h (sym (other a t) ∙ e)) ∙ merged_other x y a t);
     }

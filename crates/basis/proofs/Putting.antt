@@ -6,22 +6,22 @@ use Prim.Native.Nat.{ℕ, ◌<◌}
 use borrow.Author.Tests.{ltb-true, ltb-false}
 use lib.Dec.{ltb}
 use Rattle.sets.specs.Bits.{has, put}
-use Rattle.sets.proofs.Machine.{put-below, put-above}
+use Rattle.sets.proofs.Machine.{put_below, put_above}
 use Rattle.definitions.proofs.Tests.{by}
-use Rattle.definitions.proofs.Paths.{with-new, with-old, with-other}
+use Rattle.definitions.proofs.Paths.{with_new, with_old, with-other}
 
 module _ (m s k : ℕ) where
   -- it is a member
-  pub put-new : k < m → has (put m s k) k ≡ true
-  put-new l = rw (put-below m s k l) (with-new s k)
+  pub put_new : k < m → has (put m s k) k ≡ true
+  put_new l = rw (put_below m s k l) (with_new s k)
 
   -- what was a member is one
-  pub put-old : (j : ℕ) → has s j ≡ true → has (put m s k) j ≡ true
-  put-old j e = by (ltb k m) (λ t. rw (put-below m s k (ltb-true k m t)) (with-old s k j e)) (λ t. rw (put-above m s k (ltb-false k m t)) e)
+  pub put_old : (j : ℕ) → has s j ≡ true → has (put m s k) j ≡ true
+  put_old j e = by (ltb k m) (λ t. rw (put_below m s k (ltb-true k m t)) (with_old s k j e)) (λ t. rw (put_above m s k (ltb-false k m t)) e)
 
   -- and nothing else is
-  pub put-from : (j : ℕ) → has (put m s k) j ≡ true → (has s j ≡ true) ⊎ ((j ≡ k) × (k < m))
-  put-from j e =
+  pub put_from : (j : ℕ) → has (put m s k) j ≡ true → (has s j ≡ true) ⊎ ((j ≡ k) × (k < m))
+  put_from j e =
       by (ltb k m)
-      (λ t. let l = ltb-true k m t in ⊎_elim inl (λ q. inr (sym q, l)) (with-other s k j (rw (put-below m s k l) at e)))
-      (λ t. inl (rw (put-above m s k (ltb-false k m t)) at e))
+      (λ t. let l = ltb-true k m t in ⊎_elim inl (λ q. inr (sym q, l)) (with-other s k j (rw (put_below m s k l) at e)))
+      (λ t. inl (rw (put_above m s k (ltb-false k m t)) at e))

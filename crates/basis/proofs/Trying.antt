@@ -12,21 +12,21 @@ use lib.ListN.{length, get_or, take, set, replicate, length-set, length-replicat
 use lib.Seq.{get_or-set_same, get_or-set_other}
 use Rattle.sets.specs.Bits.{put}
 use Rattle.sets.specs.Bond.{room}
-use Rattle.sets.specs.Lists.{setsIn}
+use Rattle.sets.specs.Lists.{sets_in}
 use Rattle.definitions.specs.Search.{listed}
-use Rattle.definitions.specs.Table.{Table, bonds, tail, head, maxAtoms, maxBonds}
-use Rattle.definitions.specs.Basis.{fragments, closure?, basisRing, basisRings}
+use Rattle.definitions.specs.Table.{Table, bonds, tail, head, max_atoms, max_bonds}
+use Rattle.definitions.specs.Basis.{fragments, closure?, basis_ring, basis_rings}
 use Rattle.definitions.proofs.Tests.{by}
-use Rattle.definitions.proofs.Lists.{getD-same}
-use Rattle.definitions.proofs.Classes.{merged, merged-same}
-use Rattle.definitions.proofs.Paths.{fragments-more}
+use Rattle.definitions.proofs.Lists.{get_or-same}
+use Rattle.definitions.proofs.Classes.{merged, merged_same}
+use Rattle.definitions.proofs.Paths.{fragments_more}
 use Rattle.definitions.proofs.Refusals.{Valid}
 use Rattle.basis.specs.Climbing.{Falling, Climbed, Climbs}
 use Rattle.basis.specs.Climbing.Climbed.{start, on}
 use Rattle.basis.specs.Held.{Holds}
-use Rattle.basis.proofs.Leading.{Leads, set-falling, leads-same, own-leads, climbed-low, climbs-number, settled-last, settled-leads, joined-leads}
-use Rattle.basis.proofs.Ways.{Between, between_none, between-turn, between-sum, between_more, round-between, round-ring}
-use Rattle.basis.proofs.Collecting.{Collected, collected-none, collected-skip, collected-take, collected-count}
+use Rattle.basis.proofs.Leading.{Leads, set_falling, leads-same, own_leads, climbed_low, climbs_number, settled_last, settled_leads, joined_leads}
+use Rattle.basis.proofs.Ways.{Between, between_none, between_turn, between-sum, between_more, round_between, round_ring}
+use Rattle.basis.proofs.Collecting.{Collected, collected_none, collected_skip, collected_take, collected_count}
 
 -- for each atom there is a way to the atom that it leads to
 abbrev pub Ways : Table → ℕ → List ℕ → List ℕ → Type 0
@@ -35,29 +35,29 @@ Ways M k lower ways = (a : ℕ) → a < M.atoms → Between M k a (get_or lower 
 -- so a climb from it sums to a way
 climbed-way : {M : Table} {k : ℕ} {lower ways : List ℕ} {atom a w : ℕ} → Ways M k lower ways → atom < M.atoms → Climbed lower ways atom a w → Between M k atom a w
 climbed-way {M} {k} {atom = atom} s l start = between_none M k atom
-climbed-way s l (on {a = a} c h) = between-sum (climbed-way s l c) (s a (omega (arith, climbed-low c)))
+climbed-way s l (on {a = a} c h) = between-sum (climbed-way s l c) (s a (omega (arith, climbed_low c)))
 
 -- the bonds below k are tried: `lower` leads by them, `ways` are made of them, and the rings of the closure bonds among them are found
 pub record Tried (M : Table) (lower ways rings : List ℕ) (n k : ℕ) : Type 0 where
   pub within : k ≤ bonds M
-  pub atoms : length lower ≡ maxAtoms
-  pub places : length ways ≡ maxAtoms
+  pub atoms : length lower ≡ max_atoms
+  pub places : length ways ≡ max_atoms
   pub falling : Falling lower
   pub leads : Leads M.atoms lower (fragments M k)
   pub known : Ways M k lower ways
-  pub found : Collected (closure? M) (basisRing M) rings n k
+  pub found : Collected (closure? M) (basis_ring M) rings n k
 
 -- before the first bond each atom leads to itself
-pub tried-none : (M : Table) (lower : List ℕ) {ways rings : List ℕ} → length lower ≡ maxAtoms → Falling lower → ((a : ℕ) → a < M.atoms → get_or lower a 0 ≡ a)
-    → ways ≡ replicate maxAtoms 0 → rings ≡ replicate maxBonds 0 → Tried M lower ways rings 0 0
-tried-none M lower e falls own ew er = rw (ew, er) (record {
+pub tried_none : (M : Table) (lower : List ℕ) {ways rings : List ℕ} → length lower ≡ max_atoms → Falling lower → ((a : ℕ) → a < M.atoms → get_or lower a 0 ≡ a)
+    → ways ≡ replicate max_atoms 0 → rings ≡ replicate max_bonds 0 → Tried M lower ways rings 0 0
+tried_none M lower e falls own ew er = rw (ew, er) (record {
   within = omega arith;
   atoms = e;
-  places = length-replicate {A = ℕ} maxAtoms 0;
+  places = length-replicate {A = ℕ} max_atoms 0;
   falling = falls;
-  leads = own-leads M lower own;
-  known = λ a h. rw (own a h, getD-same {A = ℕ} maxAtoms a 0) (between_none M 0 a);
-  found = collected-none (closure? M) (basisRing M) (length-replicate {A = ℕ} maxBonds 0) (λ i. getD-same maxBonds i 0);
+  leads = own_leads M lower own;
+  known = λ a h. rw (own a h, get_or-same {A = ℕ} max_atoms a 0) (between_none M 0 a);
+  found = collected_none (closure? M) (basis_ring M) (length-replicate {A = ℕ} max_bonds 0) (λ i. get_or-same max_bonds i 0);
 })
 
 -- from atom a a climb came to x, the first of its fragment, by a way
@@ -68,8 +68,8 @@ pub record Reached (M : Table) (lower : List ℕ) (k a x w : ℕ) : Type 0 where
   pub way : Between M k a x w
 
 module _ {M : Table} {lower ways rings : List ℕ} {n k : ℕ} (t : Tried M lower ways rings n k) where
-  pub climbs-reached : {a x w : ℕ} → a < M.atoms → Climbs lower ways a x w → Reached M lower k a x w
-  climbs-reached l c = record { low = climbed-low c.climbed; number = climbs-number t.leads l c; last = c.last; way = climbed-way t.known l c.climbed }
+  pub climbs_reached : {a x w : ℕ} → a < M.atoms → Climbs lower ways a x w → Reached M lower k a x w
+  climbs_reached l c = record { low = climbed_low c.climbed; number = climbs_number t.leads l c; last = c.last; way = climbed-way t.known l c.climbed }
 
   -- the atom may lead straight there
   module _ (valid : Valid M) {a x w : ℕ} (l : a < M.atoms) (r : Reached M lower k a x w) where
@@ -81,8 +81,8 @@ module _ {M : Table} {lower ways rings : List ℕ} {n k : ℕ} (t : Tried M lowe
       within = t.within;
       atoms = simp length-set t.atoms;
       places = simp length-set t.places;
-      falling = set-falling lower a x below.0 r.low t.falling;
-      leads = settled-leads t.leads below.0 (omega (arith, r.low)) r.last r.number;
+      falling = set_falling lower a x below.0 r.low t.falling;
+      leads = settled_leads t.leads below.0 (omega (arith, r.low)) r.last r.number;
       known = λ i h. by (eqb i a) (λ z. own i (eqb-true i a z)) (λ z. other i h (eqb-false i a z));
       found = t.found;
     }
@@ -98,13 +98,13 @@ module _ {M : Table} {lower ways rings : List ℕ} {n k : ℕ} (t : Tried M lowe
     stays b y v m q = record {
       low = q.low;
       number = q.number;
-      last = settled-last t.leads below.0 (omega (arith, r.low)) r.last r.number y (omega (arith, q.low)) q.last;
+      last = settled_last t.leads below.0 (omega (arith, r.low)) r.last r.number y (omega (arith, q.low)) q.last;
       way = q.way;
     }
 
-    pub tried-settled : {lower' ways' : List ℕ} → lower' ≡ set lower a x → ways' ≡ set ways a w
+    pub tried_settled : {lower' ways' : List ℕ} → lower' ≡ set lower a x → ways' ≡ set ways a w
         → Tried M lower' ways' rings n k × ((b y v : ℕ) → b < M.atoms → Reached M lower k b y v → Reached M lower' k b y v)
-    tried-settled el ew = rw (el, ew) (settled, stays)
+    tried_settled el ew = rw (el, ew) (settled, stays)
 
 -- ---- one bond more, where climbs from its ends came to x and to y
 
@@ -139,30 +139,30 @@ module _ {M : Table} {lower ways rings : List ℕ} {n k : ℕ} (t : Tried M lowe
 
   -- the fragments after it
   next : (i : ℕ) → get_or (fragments M (k + 1)) i 0 ≡ merged x y (get_or (fragments M k) i 0)
-  next i = fragments-more M k i ∙ rw (← tail-number, ← head-number)
+  next i = fragments_more M k i ∙ rw (← tail-number, ← head-number)
 
   -- a bond within one fragment is a closure bond, and gives its basis ring
-  tried-ring : x ≡ y → Tried M lower ways (set rings n r) (n + 1) (k + 1)
-  tried-ring same = record {
+  tried_ring : x ≡ y → Tried M lower ways (set rings n r) (n + 1) (k + 1)
+  tried_ring same = record {
     within = omega arith;
     atoms = t.atoms;
     places = t.places;
     falling = t.falling;
-    leads = leads-same (fragments M (k + 1)) t.leads (λ i. next i ∙ merged-same x y _ same);
+    leads = leads-same (fragments M (k + 1)) t.leads (λ i. next i ∙ merged_same x y _ same);
     known = λ i h. between_more (t.known i h);
-    found = collected-take t.found (omega (arith, valid.few-bonds)) (sym closes ∙ eq-eqb x y same) (round-ring valid l tail-way head-way whole same);
+    found = collected_take t.found (omega (arith, valid.few-bonds)) (sym closes ∙ eq-eqb x y same) (round_ring valid l tail-way head-way whole same);
   }
 
   -- a bond between two fragments makes them one
-  tried-join : (x ≡ y → ⊥) → Tried M (set lower (max x y) (min x y)) (set ways (max x y) r) rings n (k + 1)
-  tried-join apart = record {
+  tried_join : (x ≡ y → ⊥) → Tried M (set lower (max x y) (min x y)) (set ways (max x y) r) rings n (k + 1)
+  tried_join apart = record {
     within = omega arith;
     atoms = simp length-set t.atoms;
     places = simp length-set t.places;
-    falling = set-falling lower (max x y) (min x y) (omega (arith, below)) (omega arith) t.falling;
-    leads = joined-leads lower x y (omega (arith, below)) t.leads low.0 low.1 cx.last cy.last (fragments M (k + 1)) next;
+    falling = set_falling lower (max x y) (min x y) (omega (arith, below)) (omega arith) t.falling;
+    leads = joined_leads lower x y (omega (arith, below)) t.leads low.0 low.1 cx.last cy.last (fragments M (k + 1)) next;
     known = λ i h. by (eqb i (max x y)) (λ z. own i (eqb-true i (max x y) z)) (λ z. other i h (eqb-false i (max x y) z));
-    found = collected-skip t.found two;
+    found = collected_skip t.found two;
   }
     where
       two : closure? M k ≡ false
@@ -175,11 +175,11 @@ module _ {M : Table} {lower ways rings : List ℕ} {n k : ℕ} (t : Tried M lowe
       across : Between M (k + 1) (max x y) (min x y) r
       across =
           by (ltb x y)
-          (λ z. ends (omega (arith, ltb-true x y z)) (omega (arith, ltb-true x y z)) (between-turn there))
+          (λ z. ends (omega (arith, ltb-true x y z)) (omega (arith, ltb-true x y z)) (between_turn there))
           (λ z. ends (omega (arith, ltb-false x y z)) (omega (arith, ltb-false x y z)) there)
         where
           there : Between M (k + 1) x y r
-          there = round-between valid l tail-way head-way whole two
+          there = round_between valid l tail-way head-way whole two
 
           ends : {p q : ℕ} → p ≡ max x y → q ≡ min x y → Between M (k + 1) p q r → Between M (k + 1) (max x y) (min x y) r
           ends i j way = rw (i, j) at way
@@ -191,19 +191,19 @@ module _ {M : Table} {lower ways rings : List ℕ} {n k : ℕ} (t : Tried M lowe
       other i h z = rw (get_or-set_other lower (max x y) i (min x y) 0 z, get_or-set_other ways (max x y) i r 0 z) (between_more (t.known i h))
 
   -- so the turn ends in one of two ways
-  pub tried-turn : (x ≡ y → Tried M lower ways (set rings n r) (n + 1) (k + 1))
+  pub tried_turn : (x ≡ y → Tried M lower ways (set rings n r) (n + 1) (k + 1))
       × ((x ≡ y → ⊥) → Tried M (set lower (max x y) (min x y)) (set ways (max x y) r) rings n (k + 1))
-  tried-turn = (tried-ring, tried-join)
+  tried_turn = (tried_ring, tried_join)
 
 -- after the last bond the rings are the basis rings
-pub tried-all : {M : Table} {lower ways rings : List ℕ} {number n k : ℕ} → Valid M → Tried M lower ways (setsIn rings) n k → bonds M ≤ k
+pub tried_all : {M : Table} {lower ways rings : List ℕ} {number n k : ℕ} → Valid M → Tried M lower ways (sets_in rings) n k → bonds M ≤ k
     → Holds M (record { number = number; rings = rings; count = n })
-unfolding basisRings
-tried-all {M} {rings = rings} {n = n} valid t h =
-    let whole : take n (setsIn rings) ≡ listed (bonds M) (closure? M) (basisRing M) = t.found.list ∙ ap (λ (i : ℕ). listed i (closure? M) (basisRing M)) (le_antisymm t.within h) in
+unfolding basis_rings
+tried_all {M} {rings = rings} {n = n} valid t h =
+    let whole : take n (sets_in rings) ≡ listed (bonds M) (closure? M) (basis_ring M) = t.found.list ∙ ap (λ (i : ℕ). listed i (closure? M) (basis_ring M)) (le_antisymm t.within h) in
     record {
       rings = whole;
-      count = sym (collected-count t.found (omega (arith, t.within, valid.few-bonds))) ∙ ap length whole;
+      count = sym (collected_count t.found (omega (arith, t.within, valid.few-bonds))) ∙ ap length whole;
       counted = omega (arith, t.found.few, t.within, valid.few-bonds);
       blank = t.found.blank;
     }

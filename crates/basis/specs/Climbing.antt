@@ -2,11 +2,11 @@
 -- a way there. Assumes nothing.
 use Rattle.std.specs.Prelude.{◌≡◌, List, ℕ, ◌≤◌, ◌<◌, get_or}
 use Rattle.std.specs.Int.Bits.{bit_xor}
-use Rattle.definitions.specs.Table.{maxAtoms}
+use Rattle.definitions.specs.Table.{max_atoms}
 
 -- no atom leads to a higher one
 abbrev pub Falling : List ℕ → Type 0
-Falling lower = (a : ℕ) → a < maxAtoms → get_or lower a 0 ≤ a
+Falling lower = (a : ℕ) → a < max_atoms → get_or lower a 0 ≤ a
 
 -- from an atom the climb has come to a, and w is the sum of the ways
 pub data Climbed (lower ways : List ℕ) (atom : ℕ) : ℕ → ℕ → Type 0 where

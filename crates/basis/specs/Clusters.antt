@@ -18,8 +18,8 @@ abbrev pub group_of : Cluster → Group
 group_of c = record { members = ring.bits c.members; bonds = bond.bits c.bonds; left = ring.bits c.left }
 
 -- ring i joins where it shares a bond
-abbrev pub joinedBy : Group → ℕ → ℕ → Group
-joinedBy g i s =
+abbrev pub joined_by : Group → ℕ → ℕ → Group
+joined_by g i s =
     cond (meet s g.bonds) (record { members = put ring.room g.members i; bonds = bit_or g.bonds s; left = without g.left i }) g
 
 -- of the basis rings rs those of `all` are looked at: the group's are linked with the first, and the others are left

@@ -2,14 +2,14 @@
 // it are added, until a pass over those left adds none.
 ghost use Rattle.std.specs.Prelude.{◌≡◌, true, List, ℕ, ◌≤◌, ◌<◌, length, get_or, take};
 ghost use Rattle.sets.specs.Bits.{has};
-ghost use Rattle.sets.specs.Bond.{bits as bondBits};
-ghost use Rattle.sets.specs.Ring.{bits as ringBits};
-ghost use Rattle.sets.specs.Lists.{setsIn};
-ghost use Rattle.definitions.specs.Table.{maxBonds};
-ghost use Rattle.definitions.specs.Assembly.{assembliesOf};
+ghost use Rattle.sets.specs.Bond.{bits as bond_bits};
+ghost use Rattle.sets.specs.Ring.{bits as ring_bits};
+ghost use Rattle.sets.specs.Lists.{sets_in};
+ghost use Rattle.definitions.specs.Table.{max_bonds};
+ghost use Rattle.definitions.specs.Assembly.{assemblies_of};
 ghost use Rattle.definitions.specs.Answer.{over};
 ghost use Rattle.basis.specs.Held.{members_of, AssembliesOf};
-ghost use Rattle.basis.specs.Clusters.{group_of, joinedBy, Grouped, Apart, Pass, Numbered};
+ghost use Rattle.basis.specs.Clusters.{group_of, joined_by, Grouped, Apart, Pass, Numbered};
 
 use answers::{BASIS_WORDS, MAX_BONDS};
 use sets::list::{sets_in, sets_up_to};
@@ -33,7 +33,7 @@ pub(crate) struct Cluster {
 impl Cluster {
     // Ring i, one of those left, joins the cluster where it shares a bond with it.
     fn joined(self, i: usize, ring: BondSet) -> Cluster
-        ensures { group_of result ≡ joinedBy (group_of self) i (bondBits ring) }
+        ensures { group_of result ≡ joined_by (group_of self) i (bond_bits ring) }
     {
         if ring.meets(self.bonds) {
             Cluster {
@@ -48,8 +48,8 @@ impl Cluster {
 
     // One pass over the rings left.
     fn passed(self, rings: &[u64; BASIS_WORDS], count: usize) -> Cluster
-        requires { (count ≤ maxBonds) × ((i : ℕ) → has (ringBits self.left) i ≡ true → i < count) }
-        ensures { Pass (take count (setsIn rings.now)) (group_of self) (group_of result) }
+        requires { (count ≤ max_bonds) × ((i : ℕ) → has (ring_bits self.left) i ≡ true → i < count) }
+        ensures { Pass (take count (sets_in rings.now)) (group_of self) (group_of result) }
     {
         let mut cluster = self;
         let mut i = cluster.left.next(0);
@@ -63,8 +63,8 @@ impl Cluster {
 
 // The cluster of a ring, collected from the rings left.
 fn cluster_of(rings: &[u64; BASIS_WORDS], count: usize, first: usize, left: RingSet) -> Cluster
-    requires { (count ≤ maxBonds) × (has (ringBits left) first ≡ true) × ((i : ℕ) → has (ringBits left) i ≡ true → i < count) }
-    ensures { Grouped (take count (setsIn rings.now)) first (ringBits left) (group_of result) × Apart (take count (setsIn rings.now)) (group_of result) }
+    requires { (count ≤ max_bonds) × (has (ring_bits left) first ≡ true) × ((i : ℕ) → has (ring_bits left) i ≡ true → i < count) }
+    ensures { Grouped (take count (sets_in rings.now)) first (ring_bits left) (group_of result) × Apart (take count (sets_in rings.now)) (group_of result) }
 {
     let mut cluster = Cluster {
         members: RingSet::only(first),
@@ -82,7 +82,7 @@ fn cluster_of(rings: &[u64; BASIS_WORDS], count: usize, first: usize, left: Ring
 
 // The assemblies of the first basis rings of a list, or of all of them where a list has no more.
 pub fn assemblies_of(rings: &[u64; BASIS_WORDS], count: usize) -> Assemblies
-    ensures { AssembliesOf (take count (setsIn rings.now)) result }
+    ensures { AssembliesOf (take count (sets_in rings.now)) result }
 {
     let places = sets_in(rings);
     let known = sets_up_to(rings, count);
@@ -106,8 +106,8 @@ pub fn assemblies_of(rings: &[u64; BASIS_WORDS], count: usize) -> Assemblies
 
 // Writes the number of an assembly at the place of each of its basis rings.
 fn number_members(members: RingSet, a: u8, out: &mut [u8])
-    requires { (i : ℕ) → has (ringBits members) i ≡ true → i < length out.old }
-    ensures { Numbered (has (ringBits members)) (λ i. a) out.old out.new }
+    requires { (i : ℕ) → has (ring_bits members) i ≡ true → i < length out.old }
+    ensures { Numbered (has (ring_bits members)) (λ i. a) out.old out.new }
 {
     let mut i = members.next(0);
     while i <= RingSet::LAST {
@@ -118,8 +118,8 @@ fn number_members(members: RingSet, a: u8, out: &mut [u8])
 
 // Writes the assembly of each basis ring over the start of a list.
 pub(crate) fn write_assemblies(found: Assemblies, out: &mut [u8])
-    requires { (found.count ≤ maxBonds) × ((a i : ℕ) → has (get_or (members_of found) a 0) i ≡ true → i < length out.old) }
-    ensures { (rs : List ℕ) → length rs ≤ length out.old → AssembliesOf rs found → out.new ≡ over (assembliesOf rs) out.old }
+    requires { (found.count ≤ max_bonds) × ((a i : ℕ) → has (get_or (members_of found) a 0) i ≡ true → i < length out.old) }
+    ensures { (rs : List ℕ) → length rs ≤ length out.old → AssembliesOf rs found → out.new ≡ over (assemblies_of rs) out.old }
 {
     let mut a: usize = 0;
     while a < found.count {

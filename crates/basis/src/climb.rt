@@ -2,8 +2,8 @@
 // and has the set of bonds of a way there: in a sum of ways the bonds gone over twice fall out.
 ghost use Rattle.std.specs.Prelude.{◌≡◌, ℕ, ◌≤◌, ◌<◌, min, max, get_or, set};
 ghost use Rattle.sets.specs.Bond.{bits};
-ghost use Rattle.sets.specs.Lists.{setsIn};
-ghost use Rattle.definitions.specs.Table.{maxAtoms};
+ghost use Rattle.sets.specs.Lists.{sets_in};
+ghost use Rattle.definitions.specs.Table.{max_atoms};
 ghost use Rattle.basis.specs.Climbing.{Falling, Climbs};
 
 use answers::{ATOM_WORDS, MAX_ATOMS};
@@ -18,7 +18,7 @@ pub(crate) struct Climb {
 
 // Each atom leads to itself.
 pub(crate) fn apart(atoms: usize) -> [usize; MAX_ATOMS]
-    requires { atoms ≤ maxAtoms }
+    requires { atoms ≤ max_atoms }
     ensures { Falling result × ((a : ℕ) → a < atoms → get_or result a 0 ≡ a) }
 {
     let mut lower = [0usize; MAX_ATOMS];
@@ -32,8 +32,8 @@ pub(crate) fn apart(atoms: usize) -> [usize; MAX_ATOMS]
 
 // From an atom to the first atom of its fragment.
 pub(crate) fn climb_from(lower: &[usize; MAX_ATOMS], ways: &[u64; ATOM_WORDS], atom: usize) -> Climb
-    requires { Falling lower.now × (atom < maxAtoms) }
-    ensures { Climbs lower.now (setsIn ways.now) atom result.atom (bits result.bonds) }
+    requires { Falling lower.now × (atom < max_atoms) }
+    ensures { Climbs lower.now (sets_in ways.now) atom result.atom (bits result.bonds) }
 {
     let mut a = atom;
     let mut bonds = BondSet::EMPTY;
@@ -51,8 +51,8 @@ pub(crate) fn settle(
     atom: usize,
     climb: Climb,
 )
-    requires { atom < maxAtoms }
-    ensures { (lower.new ≡ set lower.old atom climb.atom) × (setsIn ways.new ≡ set (setsIn ways.old) atom (bits climb.bonds)) }
+    requires { atom < max_atoms }
+    ensures { (lower.new ≡ set lower.old atom climb.atom) × (sets_in ways.new ≡ set (sets_in ways.old) atom (bits climb.bonds)) }
 {
     lower[atom] = climb.atom;
     climb.bonds.put_at(ways, atom);
@@ -66,8 +66,8 @@ pub(crate) fn join(
     b: usize,
     bonds: BondSet,
 )
-    requires { (a < maxAtoms) × (b < maxAtoms) }
-    ensures { (lower.new ≡ set lower.old (max a b) (min a b)) × (setsIn ways.new ≡ set (setsIn ways.old) (max a b) (bits bonds)) }
+    requires { (a < max_atoms) × (b < max_atoms) }
+    ensures { (lower.new ≡ set lower.old (max a b) (min a b)) × (sets_in ways.new ≡ set (sets_in ways.old) (max a b) (bits bonds)) }
 {
     if a < b {
         lower[b] = a;

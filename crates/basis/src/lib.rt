@@ -5,9 +5,9 @@ mod climb;
 
 ghost use Rattle.std.specs.Prelude.{◌≡◌, [], length};
 ghost use Rattle.definitions.specs.Table.{table, refusal};
-ghost use Rattle.definitions.specs.Basis.{basisRings};
+ghost use Rattle.definitions.specs.Basis.{basis_rings};
 ghost use Rattle.definitions.specs.Assembly as spec;
-ghost use Rattle.definitions.specs.Answer.{outcomeOf, counted, written, writtenSets};
+ghost use Rattle.definitions.specs.Answer.{outcome_of, counted, written, written_sets};
 
 use answers::{Answer, ROOM, write_sets};
 use assembly::write_assemblies;
@@ -16,7 +16,7 @@ pub use basis::{Basis, basis_of};
 
 // The table check: 0 and the number of basis rings, or the number of the refusal and 0.
 pub fn check(atoms: u64, bonds: &[u8]) -> Answer
-    ensures answer { outcomeOf result.number result.count [] ≡ counted (refusal (table atoms bonds.now)) (length (basisRings (table atoms bonds.now))) }
+    ensures answer { outcome_of result.number result.count [] ≡ counted (refusal (table atoms bonds.now)) (length (basis_rings (table atoms bonds.now))) }
     ensures read { bonds.now ≡ bonds.now }
 {
     let basis = basis_of(atoms, bonds);
@@ -28,7 +28,7 @@ pub fn check(atoms: u64, bonds: &[u8]) -> Answer
 
 // The basis rings: sets as words, in order of closure bonds.
 pub fn basis_rings(atoms: u64, bonds: &[u8], out: &mut [u64]) -> Answer
-    ensures answer { outcomeOf result.number result.count out.new ≡ writtenSets (refusal (table atoms bonds.now)) (basisRings (table atoms bonds.now)) out.old }
+    ensures answer { outcome_of result.number result.count out.new ≡ written_sets (refusal (table atoms bonds.now)) (basis_rings (table atoms bonds.now)) out.old }
     ensures read { bonds.now ≡ bonds.now }
 {
     let basis = basis_of(atoms, bonds);
@@ -43,7 +43,7 @@ pub fn basis_rings(atoms: u64, bonds: &[u8], out: &mut [u64]) -> Answer
 
 // The assemblies: for each basis ring the number of its assembly, in one byte.
 pub fn assemblies(atoms: u64, bonds: &[u8], out: &mut [u8]) -> Answer
-    ensures answer { outcomeOf result.number result.count out.new ≡ written (refusal (table atoms bonds.now)) (spec.assemblies (table atoms bonds.now)) out.old }
+    ensures answer { outcome_of result.number result.count out.new ≡ written (refusal (table atoms bonds.now)) (spec.assemblies (table atoms bonds.now)) out.old }
     ensures read { bonds.now ≡ bonds.now }
 {
     let basis = basis_of(atoms, bonds);

@@ -11,38 +11,38 @@ use lib.Seq.{take-suc-set, drop-set-lt, take-take, length-take-le, drop-drop}
 use Rattle.sets.specs.Bits.{IsNext}
 use Rattle.sets.specs.Bond.{room}
 use Rattle.definitions.specs.Smallest.{SumOf, sum?, taking}
-use Rattle.definitions.proofs.Tests.{by, not-passed, clashes}
-use Rattle.definitions.proofs.Lists.{length-snoc}
-use Rattle.spans.proofs.Choice.{sum?-test}
-use Rattle.spans.proofs.Taking.{taking-full, taking-leave-at, taking-keep-at}
+use Rattle.definitions.proofs.Tests.{by, not_passed, clashes}
+use Rattle.definitions.proofs.Lists.{length_snoc}
+use Rattle.spans.proofs.Choice.{sum?_test}
+use Rattle.spans.proofs.Taking.{taking_full, taking_leave_at, taking-keep-at}
 use Rattle.spans.specs.Elimination.{Lowest, Remainder}
-use Rattle.spans.proofs.Elimination.{lowest-first, nothing-first, kept-none, kept-zero, kept-left, kept_more}
-use Rattle.choosing.specs.Elimination.{takenWith, Eliminated, Stepped, Choosable, Selected}
+use Rattle.spans.proofs.Elimination.{lowest_first, nothing-first, kept-none, kept-zero, kept-left, kept_more}
+use Rattle.choosing.specs.Elimination.{taken_with, Eliminated, Stepped, Choosable, Selected}
 
 -- ---- one ring more
 
 module _ (taken : List ℕ) (x : ℕ) where
   -- a sum of rings taken is passed over
-  with-sum : SumOf taken x → takenWith taken x ≡ taken
-  unfolding takenWith
-  with-sum s = rw ((sum?-test taken x).1 s, takenWith)
+  with-sum : SumOf taken x → taken_with taken x ≡ taken
+  unfolding taken_with
+  with-sum s = rw ((sum?_test taken x).1 s, taken_with)
 
   -- any other is taken
-  with-new : (SumOf taken x → ⊥) → takenWith taken x ≡ taken ++ x ∷ []
-  unfolding takenWith
-  with-new n = rw (not-passed (sum? taken x) (λ h. n ((sum?-test taken x).0 h)), takenWith)
+  with_new : (SumOf taken x → ⊥) → taken_with taken x ≡ taken ++ x ∷ []
+  unfolding taken_with
+  with_new n = rw (not_passed (sum? taken x) (λ h. n ((sum?_test taken x).0 h)), taken_with)
 
   -- it is one more at most
-  with-length : (length taken ≤ length (takenWith taken x)) × (length (takenWith taken x) ≤ length taken + 1)
+  with-length : (length taken ≤ length (taken_with taken x)) × (length (taken_with taken x) ≤ length taken + 1)
   with-length =
       by (sum? taken x)
-      (λ h. rw (with-sum ((sum?-test taken x).0 h)) (omega arith))
-      (λ h. rw (with-new (λ s. clashes ((sum?-test taken x).1 s) h)) (omega (arith, length-snoc taken x)))
+      (λ h. rw (with-sum ((sum?_test taken x).0 h)) (omega arith))
+      (λ h. rw (with_new (λ s. clashes ((sum?_test taken x).1 s) h)) (omega (arith, length_snoc taken x)))
 
 module _ {kept taken : List ℕ} {n ring rest k : ℕ} (e : Eliminated kept taken n) (left : Remainder kept ring rest) (next : IsNext room rest 0 k) where
   -- something is left: the ring is taken, and what is left is kept
-  pub step-new : {kept' taken' : List ℕ} → n < room → k < room → kept' ≡ set kept k rest → taken' ≡ set taken n ring → Stepped taken n ring kept' taken' (n + 1)
-  step-new h l p q =
+  pub step_new : {kept' taken' : List ℕ} → n < room → k < room → kept' ≡ set kept k rest → taken' ≡ set taken n ring → Stepped taken n ring kept' taken' (n + 1)
+  step_new h l p q =
       rw (p, q) (record {
         state = record {
           long = length-set kept k rest ∙ e.long;
@@ -50,19 +50,19 @@ module _ {kept taken : List ℕ} {n ring rest k : ℕ} (e : Eliminated kept take
           few = omega arith;
           sums = rw more (kept_more e.sums left low (omega (arith, e.long)));
         };
-        list = more ∙ sym (with-new (take n taken) ring (kept-left e.sums left low));
+        list = more ∙ sym (with_new (take n taken) ring (kept-left e.sums left low));
         rest = drop-set-lt (n + 1) taken n ring (omega arith);
       })
     where
       low : Lowest rest k
-      low = lowest-first room next l
+      low = lowest_first room next l
 
       more : take (n + 1) (set taken n ring) ≡ take n taken ++ ring ∷ []
       more = rw add-one (take-suc-set taken n ring (omega (arith, e.lent)))
 
   -- nothing is left: it is passed over
-  pub step-old : rest < 2 ^ room → room ≤ k → Stepped taken n ring kept taken n
-  step-old b l = record { state = e; list = sym (with-sum (take n taken) ring (kept-zero e.sums left (nothing-first room next b l))); rest = refl }
+  pub step_old : rest < 2 ^ room → room ≤ k → Stepped taken n ring kept taken n
+  step_old b l = record { state = e; list = sym (with-sum (take n taken) ring (kept-zero e.sums left (nothing-first room next b l))); rest = refl }
 
 -- lists that agree from one place on agree from a later one on
 drop-later : (l m : List ℕ) (i j : ℕ) → i ≤ j → drop i l ≡ drop i m → drop j l ≡ drop j m
@@ -82,9 +82,9 @@ pub record Selecting (found : List ℕ) (m want : ℕ) (start kept taken : List 
 
 module _ {found : List ℕ} {m want : ℕ} {start : List ℕ} (c : Choosable found m want start) where
   -- before the first ring none is taken
-  pub selecting-none : {kept : List ℕ} → kept ≡ replicate room 0 → Selecting found m want start kept start 0 0
+  pub selecting_none : {kept : List ℕ} → kept ≡ replicate room 0 → Selecting found m want start kept start 0 0
   unfolding taking
-  selecting-none blank =
+  selecting_none blank =
       rw blank (record {
         within = omega arith;
         count = omega arith;
@@ -95,18 +95,18 @@ module _ {found : List ℕ} {m want : ℕ} {start : List ℕ} (c : Choosable fou
 
   module _ {kept taken : List ℕ} {n i : ℕ} (s : Selecting found m want start kept taken n i) where
     -- a ring is taken only where one is wanted, so there is room for it
-    pub selecting-room : (n ≡ want → ⊥) → n < room
-    selecting-room h = omega (arith, c.few, s.count)
+    pub selecting_room : (n ≡ want → ⊥) → n < room
+    selecting_room h = omega (arith, c.few, s.count)
 
     -- one ring more
-    pub selecting-more : {x : ℕ} {kept' taken' : List ℕ} {r : ℕ} → i < m → (n ≡ want → ⊥) → x ≡ get_or found i 0 → Stepped taken n x kept' taken' r
+    pub selecting_more : {x : ℕ} {kept' taken' : List ℕ} {r : ℕ} → i < m → (n ≡ want → ⊥) → x ≡ get_or found i 0 → Stepped taken n x kept' taken' r
         → Selecting found m want start kept' taken' r (i + 1)
-    selecting-more {x} {kept'} {taken'} {r} l h q t =
+    selecting_more {x} {kept'} {taken'} {r} l h q t =
         record {
           within = omega arith;
           count = omega (arith, s.count, now, (with-length (take n taken) (get_or found i 0)).1, before);
           state = step.state;
-          list = step.list ∙ ap (λ l. takenWith l (get_or found i 0)) s.list ∙ next;
+          list = step.list ∙ ap (λ l. taken_with l (get_or found i 0)) s.list ∙ next;
           rest = step.rest ∙ drop-later taken start n r (omega (arith, now, (with-length (take n taken) (get_or found i 0)).0, before)) s.rest;
         }
       where
@@ -116,26 +116,26 @@ module _ {found : List ℕ} {m want : ℕ} {start : List ℕ} (c : Choosable fou
         before : length (take n taken) ≡ n
         before = length-take-le n taken (omega (arith, s.state.few, s.state.lent))
 
-        now : length (takenWith (take n taken) (get_or found i 0)) ≡ r
+        now : length (taken_with (take n taken) (get_or found i 0)) ≡ r
         now = ap length (sym step.list) ∙ length-take-le r taken' (omega (arith, step.state.few, step.state.lent))
 
         inside : i < length found
         inside = omega (arith, c.within)
 
-        next : takenWith (taking [] (take i found)) (get_or found i 0) ≡ taking [] (take (i + 1) found)
+        next : taken_with (taking [] (take i found)) (get_or found i 0) ≡ taking [] (take (i + 1) found)
         next =
             by (sum? (taking [] (take i found)) (get_or found i 0))
-            (λ q. let is = (sum?-test (taking [] (take i found)) (get_or found i 0)).0 q in
-            with-sum (taking [] (take i found)) (get_or found i 0) is ∙ sym (taking-leave-at found i inside is))
-            (λ q. let is : SumOf (taking [] (take i found)) (get_or found i 0) → ⊥ = λ u. clashes ((sum?-test (taking [] (take i found)) (get_or found i 0)).1 u) q in
-            with-new (taking [] (take i found)) (get_or found i 0) is ∙ sym (taking-keep-at found i inside is))
+            (λ q. let is = (sum?_test (taking [] (take i found)) (get_or found i 0)).0 q in
+            with-sum (taking [] (take i found)) (get_or found i 0) is ∙ sym (taking_leave_at found i inside is))
+            (λ q. let is : SumOf (taking [] (take i found)) (get_or found i 0) → ⊥ = λ u. clashes ((sum?_test (taking [] (take i found)) (get_or found i 0)).1 u) q in
+            with_new (taking [] (take i found)) (get_or found i 0) is ∙ sym (taking-keep-at found i inside is))
 
     -- as many are taken as are wanted
-    pub selecting-full : n ≡ want → Selected (take m found) start taken n
-    selecting-full h = record {
+    pub selecting_full : n ≡ want → Selected (take m found) start taken n
+    selecting_full h = record {
       long = s.state.lent;
       few = s.state.few;
-      list = s.list ∙ sym (taking-full i (take m found) c.spanned.0 c.spanned.2 enough ∙ ap (taking []) part);
+      list = s.list ∙ sym (taking_full i (take m found) c.spanned.0 c.spanned.2 enough ∙ ap (taking []) part);
       rest = s.rest;
     }
       where
@@ -147,8 +147,8 @@ module _ {found : List ℕ} {m want : ℕ} {start : List ℕ} (c : Choosable fou
             omega (arith, c.spanned.1, ap (λ l. length (taking [] l)) part, ap length s.list, length-take-le n taken (omega (arith, s.state.few, s.state.lent)))
 
     -- all rings are gone through
-    pub selecting-all : m ≤ i → Selected (take m found) start taken n
-    selecting-all h = record {
+    pub selecting_all : m ≤ i → Selected (take m found) start taken n
+    selecting_all h = record {
       long = s.state.lent;
       few = s.state.few;
       list = s.list ∙ ap (λ k. taking [] (take k found)) (le_antisymm s.within h);

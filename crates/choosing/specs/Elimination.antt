@@ -7,8 +7,8 @@ use Rattle.definitions.specs.Smallest.{SumOf, sum?, taking}
 use Rattle.spans.specs.Elimination.{Kept}
 
 -- the rings taken, with the next one where it is no sum of them
-unfoldable pub takenWith : List ℕ → ℕ → List ℕ
-takenWith taken ring = elim (sum? taken ring) [ true ↦ taken | false ↦ taken ++ (ring ∷ []) ]
+unfoldable pub taken_with : List ℕ → ℕ → List ℕ
+taken_with taken ring = elim (sum? taken ring) [ true ↦ taken | false ↦ taken ++ (ring ∷ []) ]
 
 -- the first n sets of a list are taken, and another keeps for each lowest bond a set by which sums of them are told
 pub record Eliminated (kept taken : List ℕ) (n : ℕ) : Type 0 where
@@ -20,7 +20,7 @@ pub record Eliminated (kept taken : List ℕ) (n : ℕ) : Type 0 where
 -- one ring more is gone through
 pub record Stepped (taken : List ℕ) (n ring : ℕ) (kept' taken' : List ℕ) (r : ℕ) : Type 0 where
   pub state : Eliminated kept' taken' r
-  pub list : take r taken' ≡ takenWith (take n taken) ring
+  pub list : take r taken' ≡ taken_with (take n taken) ring
   pub rest : drop r taken' ≡ drop r taken
 
 -- each set of a list is a sum of some of n sets

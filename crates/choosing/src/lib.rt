@@ -2,7 +2,7 @@
 // kept are summed with it. What is left is kept, at its lowest bond.
 ghost use Rattle.std.specs.Prelude.{◌≡◌, ◌<◌, length, take};
 ghost use Rattle.sets.specs.Bond.{bits, room};
-ghost use Rattle.sets.specs.Lists.{setsIn};
+ghost use Rattle.sets.specs.Lists.{sets_in};
 ghost use Rattle.spans.specs.Elimination.{Rows, Remainder};
 ghost use Rattle.choosing.specs.Elimination.{Eliminated, Stepped, Choosable, Selected};
 
@@ -11,8 +11,8 @@ use sets::BondSet;
 
 // What is left of a ring when the set kept at its lowest bond is summed with it, as long as there is one.
 fn left_of(kept: &[u64; BASIS_WORDS], ring: BondSet) -> BondSet
-    requires { Rows (setsIn kept.now) }
-    ensures { Remainder (setsIn kept.now) (bits ring) (bits result) }
+    requires { Rows (sets_in kept.now) }
+    ensures { Remainder (sets_in kept.now) (bits ring) (bits result) }
 {
     let mut rest = ring;
     let mut k = rest.next(0);
@@ -29,8 +29,8 @@ fn left_of(kept: &[u64; BASIS_WORDS], ring: BondSet) -> BondSet
 
 // A ring is taken where something is left of it.
 fn take_new(kept: &mut [u64; BASIS_WORDS], taken: &mut [u64], count: usize, ring: BondSet) -> usize
-    requires { (Eliminated (setsIn kept.old) (setsIn taken.old) count) × (count < room) }
-    ensures { Stepped (setsIn taken.old) count (bits ring) (setsIn kept.new) (setsIn taken.new) result }
+    requires { (Eliminated (sets_in kept.old) (sets_in taken.old) count) × (count < room) }
+    ensures { Stepped (sets_in taken.old) count (bits ring) (sets_in kept.new) (sets_in taken.new) result }
 {
     let rest = left_of(kept, ring);
     let k = rest.next(0);
@@ -45,8 +45,8 @@ fn take_new(kept: &mut [u64; BASIS_WORDS], taken: &mut [u64], count: usize, ring
 // What is taken of the first n sets of a list, which are sums of as many basis rings as are wanted: when so many are taken, the rest
 // are sums of them.
 pub fn smallest_of(found: &[u64], n: usize, want: usize, taken: &mut [u64]) -> usize
-    requires { Choosable (setsIn found.now) n want (setsIn taken.old) }
-    ensures { Selected (take n (setsIn found.now)) (setsIn taken.old) (setsIn taken.new) result }
+    requires { Choosable (sets_in found.now) n want (sets_in taken.old) }
+    ensures { Selected (take n (sets_in found.now)) (sets_in taken.old) (sets_in taken.new) result }
 {
     let mut kept = [0u64; BASIS_WORDS];
     let mut count: usize = 0;

@@ -14,9 +14,9 @@ use lib.Seq.{take-suc, take-suc-set, get_or-take, length-take-le}
 use lib.Bits.{bit_xor}
 use borrow.Author.Tests.{not-true}
 use Rattle.sets.specs.Bits.{Sub, sub}
-use Rattle.sets.proofs.Size.{sub-test, test-sub}
-use Rattle.definitions.proofs.Tests.{not-passed, clashes, every-at, every_of, by, or-one, or-neither}
-use Rattle.definitions.proofs.Lists.{getD-in, in-getD, in-snoc}
+use Rattle.sets.proofs.Size.{sub_test, test_sub}
+use Rattle.definitions.proofs.Tests.{not_passed, clashes, every-at, every_of, by, or-one, or_neither}
+use Rattle.definitions.proofs.Lists.{get_or_in, in_get_or, in_snoc}
 use Rattle.lent.specs.Appended.{between}
 use Rattle.lent.proofs.Between.{between_none, between-one, between_split, between_in}
 use Rattle.combining.specs.Gibbs.{group, clear?, Doubled}
@@ -31,22 +31,22 @@ pub record Doubling (start : List ℕ) (half ring : ℕ) (sums : List ℕ) (j : 
   pub list : take (half + j) sums ≡ take half start ++ group ring (take j start)
 
 -- before the first turn
-pub doubling-none : (start : List ℕ) (half ring : ℕ) → half + half ≤ length start → Doubling start half ring start 0
-doubling-none start half ring f =
+pub doubling_none : (start : List ℕ) (half ring : ℕ) → half + half ≤ length start → Doubling start half ring start 0
+doubling_none start half ring f =
     record { within = omega arith; few = f; long = refl; list = ap (λ k. take k start) {x = half + 0} {y = half} (omega arith) ∙ sym (append-nil (take half start)) }
 
 module _ {start : List ℕ} {half ring : ℕ} {sums : List ℕ} {j : ℕ} (s : Doubling start half ring sums j) where
   -- an old set is where it was
-  old-kept : j < half → get_or sums j 0 ≡ get_or start j 0
-  old-kept h =
+  old_kept : j < half → get_or sums j 0 ≡ get_or start j 0
+  old_kept h =
       sym (get_or-take (half + j) sums j 0 (omega arith))
       ∙ ap (λ l. get_or l j 0) s.list
       ∙ get_or-append (take half start) (group ring (take j start)) 0 j (omega (arith, length-take-le half start (omega (arith, s.few))))
       ∙ get_or-take half start j 0 h
 
   -- one turn
-  pub doubling-more : {w x : ℕ} {end : List ℕ} → j < half → w ≡ get_or sums j 0 → x ≡ bit_xor ring w → end ≡ set sums (half + j) x → Doubling start half ring end (j + 1)
-  doubling-more {w} {x} {end} h e q put = record {
+  pub doubling_more : {w x : ℕ} {end : List ℕ} → j < half → w ≡ get_or sums j 0 → x ≡ bit_xor ring w → end ≡ set sums (half + j) x → Doubling start half ring end (j + 1)
+  doubling_more {w} {x} {end} h e q put = record {
     within = omega arith;
     few = s.few;
     long = ap length put ∙ length-set sums (half + j) x ∙ s.long;
@@ -60,25 +60,25 @@ module _ {start : List ℕ} {half ring : ℕ} {sums : List ℕ} {j : ℕ} (s : D
     where
       next : group ring (take j start) ++ x ∷ [] ≡ group ring (take (j + 1) start)
       next =
-          ap (λ y. group ring (take j start) ++ y ∷ []) (q ∙ ap (bit_xor ring) (e ∙ old-kept h))
+          ap (λ y. group ring (take j start) ++ y ∷ []) (q ∙ ap (bit_xor ring) (e ∙ old_kept h))
           ∙ sym (map-append (bit_xor ring) (take j start) (get_or start j 0 ∷ []))
           ∙ ap (group ring) (sym (take-suc start j 0 (omega (arith, s.few))) ∙ ap (λ k. take k start) (sym (add-one j)))
 
   -- after the last turn
-  pub doubling-all : half ≤ j → Doubled start half ring sums
-  doubling-all h = record { long = s.long; list = subst (λ k. take (half + k) sums ≡ take half start ++ group ring (take k start)) (le_antisymm s.within h) s.list }
+  pub doubling_all : half ≤ j → Doubled start half ring sums
+  doubling_all h = record { long = s.long; list = subst (λ k. take (half + k) sums ≡ take half start ++ group ring (take k start)) (le_antisymm s.within h) s.list }
 
 -- ---- a sum is tested against the rings found
 
 -- the test of a set passes where no set of the list lies inside it
-pub clear-test : (found : List ℕ) (s : ℕ) → (clear? found s ≡ true) ↔ ((t : ℕ) → In t found → Sub t s → ⊥)
+pub clear_test : (found : List ℕ) (s : ℕ) → (clear? found s ≡ true) ↔ ((t : ℕ) → In t found → Sub t s → ⊥)
 unfolding clear?
-clear-test found s = (
+clear_test found s = (
   λ h t i inside.
-      let (j, l, e) = in-getD 0 i in
-      clashes (sub-test t s inside) (rw e at (not-true (sub (get_or found j 0) s) (every-at (length found) (λ j. not (sub (get_or found j 0) s)) h j l))),
+      let (j, l, e) = in_get_or 0 i in
+      clashes (sub_test t s inside) (rw e at (not-true (sub (get_or found j 0) s) (every-at (length found) (λ j. not (sub (get_or found j 0) s)) h j l))),
   λ h. every_of (length found) (λ j. not (sub (get_or found j 0) s)) (λ j l.
-      ap not (not-passed (sub (get_or found j 0) s) (λ u. h (get_or found j 0) (getD-in found j 0 l) (test-sub _ s u)))),
+      ap not (not_passed (sub (get_or found j 0) s) (λ u. h (get_or found j 0) (get_or_in found j 0 l) (test_sub _ s u)))),
 )
 
 -- none of the rings from one place up to place i lies inside s
@@ -89,12 +89,12 @@ pub record Tested (found : List ℕ) (from to s i : ℕ) : Type 0 where
   pub none : clear? (between from i found) s ≡ true
 
 -- none is looked at yet
-pub tested-none : {found : List ℕ} {from to : ℕ} (s : ℕ) → (from ≤ to) × (to ≤ length found) → Tested found from to s from
-tested-none {found} {from} s f = record {
+pub tested_none : {found : List ℕ} {from to : ℕ} (s : ℕ) → (from ≤ to) × (to ≤ length found) → Tested found from to s from
+tested_none {found} {from} s f = record {
   few = f.1;
   after = omega arith;
   within = f.0;
-  none = (clear-test (between from from found) s).1 (λ t i. absurd (not-in-nil (rw (between_none from found) at i)));
+  none = (clear_test (between from from found) s).1 (λ t i. absurd (not-in-nil (rw (between_none from found) at i)));
 }
 
 module _ {found : List ℕ} {from to s i : ℕ} (u : Tested found from to s i) where
@@ -105,10 +105,10 @@ module _ {found : List ℕ} {from to s i : ℕ} (u : Tested found from to s i) w
     after = omega (arith, u.after);
     within = omega arith;
     none =
-        (clear-test (between from (i + 1) found) s).1
-        (λ x m. ⊎_elim ((clear-test (between from i found) s).0 u.none x)
-        (λ z inside. clashes (sub-test x s inside) (ap (λ y. sub y s) (z ∙ sym e) ∙ sym t ∙ q))
-        (in-snoc (between from i found) (rw (sym next) at m)));
+        (clear_test (between from (i + 1) found) s).1
+        (λ x m. ⊎_elim ((clear_test (between from i found) s).0 u.none x)
+        (λ z inside. clashes (sub_test x s inside) (ap (λ y. sub y s) (z ∙ sym e) ∙ sym t ∙ q))
+        (in_snoc (between from i found) (rw (sym next) at m)));
   }
     where
       next : between from i found ++ get_or found i 0 ∷ [] ≡ between from (i + 1) found
@@ -119,27 +119,27 @@ module _ {found : List ℕ} {from to s i : ℕ} (u : Tested found from to s i) w
   -- a ring from there on lies inside s
   broken : {j w : ℕ} {r : Bool} → i ≤ j → j < to → w ≡ get_or found j 0 → r ≡ sub w s → r ≡ true → false ≡ clear? (between from to found) s
   broken {j} b h e t q =
-      sym (not-passed (clear? (between from to found) s) (λ c.
-      (clear-test (between from to found) s).0 c (get_or found j 0) (between_in from j to found (omega (arith, u.after)) h u.few) (test-sub _ s (ap (λ y. sub y s) (sym e) ∙ sym t ∙ q))))
+      sym (not_passed (clear? (between from to found) s) (λ c.
+      (clear_test (between from to found) s).0 c (get_or found j 0) (between_in from j to found (omega (arith, u.after)) h u.few) (test_sub _ s (ap (λ y. sub y s) (sym e) ∙ sym t ∙ q))))
 
   -- none does
-  pub tested-all : to ≤ i → true ≡ clear? (between from to found) s
-  tested-all h = subst (λ k. true ≡ clear? (between from k found) s) (le_antisymm u.within h) (sym u.none)
+  pub tested_all : to ≤ i → true ≡ clear? (between from to found) s
+  tested_all h = subst (λ k. true ≡ clear? (between from k found) s) (le_antisymm u.within h) (sym u.none)
 
 -- the next two rings, and whether they lie inside s
 module _ {found : List ℕ} {from to s i : ℕ} (u : Tested found from to s i) {w w' : ℕ} {r r' : Bool}
     (h : i + 1 < to) (e : w ≡ get_or found i 0) (e' : w' ≡ get_or found (i + 1) 0) (t : r ≡ sub w s) (t' : r' ≡ sub w' s) where
   -- one turn: neither does
-  pub tested-more : r || r' ≡ false → Tested found from to s (i + 2)
-  tested-more q =
-      let (x, y) = or-neither r r' q in
+  pub tested_more : r || r' ≡ false → Tested found from to s (i + 2)
+  tested_more q =
+      let (x, y) = or_neither r r' q in
       subst (Tested found from to s) (omega arith) (one_more (one_more u (omega arith) e t x) h e' t' y)
 
   -- one of them does
-  pub tested-broken : r || r' ≡ true → false ≡ clear? (between from to found) s
-  tested-broken q = ⊎_elim (broken u (omega arith) (omega arith) e t) (broken u (omega arith) h e' t') (or-one r r' q)
+  pub tested_broken : r || r' ≡ true → false ≡ clear? (between from to found) s
+  tested_broken q = ⊎_elim (broken u (omega arith) (omega arith) e t) (broken u (omega arith) h e' t') (or-one r r' q)
 
 -- the last ring decides
-pub tested-last : {found : List ℕ} {from to s i w : ℕ} {r : Bool} → Tested found from to s i → i < to → to ≤ i + 1 → w ≡ get_or found i 0 → r ≡ sub w s
+pub tested_last : {found : List ℕ} {from to s i w : ℕ} {r : Bool} → Tested found from to s i → i < to → to ≤ i + 1 → w ≡ get_or found i 0 → r ≡ sub w s
     → not r ≡ clear? (between from to found) s
-tested-last {r = r} u h l e t = by r (λ q. rw q (broken u (omega arith) h e t q)) (λ q. rw q (tested-all (one_more u h e t q) l))
+tested_last {r = r} u h l e t = by r (λ q. rw q (broken u (omega arith) h e t q)) (λ q. rw q (tested_all (one_more u h e t q) l))

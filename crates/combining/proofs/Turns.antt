@@ -13,67 +13,67 @@ use lib.Dec.{ltb}
 use Rattle.sets.specs.Bits.{has, size, IsNext}
 use Rattle.sets.specs.Ring.{room}
 use Rattle.sets.proofs.Size.{size-sub}
-use Rattle.definitions.specs.Search.{count, setOf, listed, picked}
+use Rattle.definitions.specs.Search.{count, set_of, listed, picked}
 use Rattle.definitions.proofs.Tests.{and_both}
-use Rattle.definitions.proofs.Lists.{listed-take, length-listed, has-setOf, size-setOf, length-keep}
-use Rattle.definitions.proofs.Passing.{Passed, passed-next, passed_first, passed-more, passed-all}
+use Rattle.definitions.proofs.Lists.{listed-take, length-listed, has-set_of, size-set_of, length-keep}
+use Rattle.definitions.proofs.Passing.{Passed, passed_next, passed_first, passed_more, passed_all}
 use Rattle.cycles.proofs.Sums.{take-listed}
 use Rattle.lent.specs.Appended.{between, Room, Appended}
-use Rattle.lent.proofs.Appending.{appended-none, appended-as, appended-more}
-use Rattle.lent.proofs.Between.{appended-new}
-use Rattle.combining.specs.Gibbs.{group, clear?, ringsAmong, ringsFrom, combined, Doubled}
-use Rattle.combining.proofs.Adding.{appended-room}
+use Rattle.lent.proofs.Appending.{appended_none, appended_as, appended_more}
+use Rattle.lent.proofs.Between.{appended_new}
+use Rattle.combining.specs.Gibbs.{group, clear?, rings_among, rings_from, combined, Doubled}
+use Rattle.combining.proofs.Adding.{appended_room}
 
 -- the sums of some of the basis rings, where the sums of those before them are given
-unfoldable pub sumsFrom : List ℕ → List ℕ → List ℕ
-sumsFrom olds [] = olds
-sumsFrom olds (r ∷ rs) = sumsFrom (olds ++ group r olds) rs
+unfoldable pub sums_from : List ℕ → List ℕ → List ℕ
+sums_from olds [] = olds
+sums_from olds (r ∷ rs) = sums_from (olds ++ group r olds) rs
 
 -- ---- one basis ring more
 
 -- the sums are those before, and those with it
-sums-snoc : (olds l : List ℕ) (r : ℕ) → sumsFrom olds (l ++ r ∷ []) ≡ sumsFrom olds l ++ group r (sumsFrom olds l)
-unfolding sumsFrom
-sums-snoc olds [] r = refl
-sums-snoc olds (x ∷ l) r = sums-snoc (olds ++ group x olds) l r
+sums_snoc : (olds l : List ℕ) (r : ℕ) → sums_from olds (l ++ r ∷ []) ≡ sums_from olds l ++ group r (sums_from olds l)
+unfolding sums_from
+sums_snoc olds [] r = refl
+sums_snoc olds (x ∷ l) r = sums_snoc (olds ++ group x olds) l r
 
 -- what is found is what was found before, and what is found of the others
-rings-append : (olds found l m : List ℕ) → ringsFrom olds found (l ++ m) ≡ ringsFrom olds found l ++ ringsFrom (sumsFrom olds l) (found ++ ringsFrom olds found l) m
-unfolding sumsFrom ringsFrom
-rings-append olds found [] m = ap (λ f. ringsFrom olds f m) (sym (append-nil found))
+rings-append : (olds found l m : List ℕ) → rings_from olds found (l ++ m) ≡ rings_from olds found l ++ rings_from (sums_from olds l) (found ++ rings_from olds found l) m
+unfolding sums_from rings_from
+rings-append olds found [] m = ap (λ f. rings_from olds f m) (sym (append-nil found))
 rings-append olds found (x ∷ l) m =
-    let new = ringsAmong found (group x olds) in
+    let new = rings_among found (group x olds) in
     let sums = olds ++ group x olds in
-    let others = ringsFrom sums (found ++ new) l in
-    ap (λ r. new ++ r) (rings-append sums (found ++ new) l m ∙ ap (λ f. others ++ ringsFrom (sumsFrom sums l) f m) (append_assoc found new others))
-    ∙ sym (append_assoc new others (ringsFrom (sumsFrom sums l) (found ++ (new ++ others)) m))
+    let others = rings_from sums (found ++ new) l in
+    ap (λ r. new ++ r) (rings-append sums (found ++ new) l m ∙ ap (λ f. others ++ rings_from (sums_from sums l) f m) (append_assoc found new others))
+    ∙ sym (append_assoc new others (rings_from (sums_from sums l) (found ++ (new ++ others)) m))
 
 -- of one more it is what its group has
-pub rings-snoc : (olds found l : List ℕ) (r : ℕ)
-    → ringsFrom olds found (l ++ r ∷ []) ≡ ringsFrom olds found l ++ ringsAmong (found ++ ringsFrom olds found l) (group r (sumsFrom olds l))
-unfolding ringsFrom
-rings-snoc olds found l r =
+pub rings_snoc : (olds found l : List ℕ) (r : ℕ)
+    → rings_from olds found (l ++ r ∷ []) ≡ rings_from olds found l ++ rings_among (found ++ rings_from olds found l) (group r (sums_from olds l))
+unfolding rings_from
+rings_snoc olds found l r =
     rings-append olds found l (r ∷ [])
-    ∙ ap (λ m. ringsFrom olds found l ++ m) (append-nil (ringsAmong (found ++ ringsFrom olds found l) (group r (sumsFrom olds l))))
+    ∙ ap (λ m. rings_from olds found l ++ m) (append-nil (rings_among (found ++ rings_from olds found l) (group r (sums_from olds l))))
 
 -- the first group and the others
 rings-cons : (olds found : List ℕ) (r : ℕ) (l : List ℕ)
-    → ringsFrom olds found (r ∷ l) ≡ ringsAmong found (group r olds) ++ ringsFrom (olds ++ group r olds) (found ++ ringsAmong found (group r olds)) l
-unfolding ringsFrom
+    → rings_from olds found (r ∷ l) ≡ rings_among found (group r olds) ++ rings_from (olds ++ group r olds) (found ++ rings_among found (group r olds)) l
+unfolding rings_from
 rings-cons olds found r l = refl
 
 -- each basis ring doubles the sums, so no more are found than there are sums, but for the old sets
-rings-few : (olds found l : List ℕ) → length (ringsFrom olds found l) + length olds ≤ length olds * 2 ^ length l
-unfolding ringsFrom
+rings-few : (olds found l : List ℕ) → length (rings_from olds found l) + length olds ≤ length olds * 2 ^ length l
+unfolding rings_from
 rings-few olds found [] = omega arith
 rings-few olds found (r ∷ l) =
-    let new = ringsAmong found (group r olds) in
+    let new = rings_among found (group r olds) in
     let sums = olds ++ group r olds in
     let doubled : length sums ≡ length olds + length olds = length-append olds (group r olds) ∙ ap (λ k. length olds + k) (length-map olds (bit_xor r)) in
     omega (
       arith,
       ap length (rings-cons olds found r l),
-      length-append new (ringsFrom sums (found ++ new) l),
+      length-append new (rings_from sums (found ++ new) l),
       length-keep (clear? found) (group r olds),
       length-map olds (bit_xor r),
       doubled,
@@ -89,13 +89,13 @@ combined-few l = omega (arith, rings-few (0 ∷ []) [] l)
 -- ---- the basis rings that a set of places has
 
 -- no more places are looked at than a set has
-places-few : (s : ℕ) → count room (has s) ≤ size s
-places-few s =
-    omega (arith, size-setOf room (has s), size-sub (setOf room (has s)) s (λ k e. (and_both (ltb k room) (has s k) (sym (has-setOf room (has s) k) ∙ e)).1))
+places_few : (s : ℕ) → count room (has s) ≤ size s
+places_few s =
+    omega (arith, size-set_of room (has s), size-sub (set_of room (has s)) s (λ k e. (and_both (ltb k room) (has s k) (sym (has-set_of room (has s) k) ∙ e)).1))
 
 -- so no more basis rings stand at them
 picked-few : (rings : List ℕ) (s : ℕ) → length (picked rings s) ≤ size s
-picked-few rings s = omega (arith, length-listed room (has s) (λ i. get_or rings i 0), places-few s)
+picked-few rings s = omega (arith, length-listed room (has s) (λ i. get_or rings i 0), places_few s)
 
 -- and fewer rings are found of them than they have sums
 pub found-few : (rings : List ℕ) (s : ℕ) → length (combined (picked rings s)) < 2 ^ size s
@@ -104,12 +104,12 @@ found-few rings s = omega (arith, combined-few (picked rings s), pow_mono (picke
 -- ---- the loop: the basis rings below place i are combined
 
 -- the basis ring at a place
-abbrev ringAt : List ℕ → ℕ → ℕ
-ringAt rings k = get_or rings k 0
+abbrev ring_at : List ℕ → ℕ → ℕ
+ring_at rings k = get_or rings k 0
 
 -- the basis rings that a set of places has below place i
 abbrev upto : List ℕ → ℕ → ℕ → List ℕ
-upto rings s i = listed i (has s) (ringAt rings)
+upto rings s i = listed i (has s) (ring_at rings)
 
 -- their sums are the first half sets of a list, and what is found of them follows the first n of another, which are then the first r
 pub record Turned (rings : List ℕ) (s : ℕ) (start : List ℕ) (n : ℕ) (sums : List ℕ) (half : ℕ) (found : List ℕ) (r i : ℕ) : Type 0 where
@@ -117,25 +117,25 @@ pub record Turned (rings : List ℕ) (s : ℕ) (start : List ℕ) (n : ℕ) (sum
   pub lent : Room (combined (picked rings s)) start n
   pub passed : Passed room s i
   pub power : half ≡ 2 ^ length (upto rings s i)
-  pub list : take half sums ≡ sumsFrom (0 ∷ []) (upto rings s i)
+  pub list : take half sums ≡ sums_from (0 ∷ []) (upto rings s i)
   pub appended : Appended start n (combined (upto rings s i)) found r
 
 -- before the first basis ring the empty set is the only sum
 pub turned_none : {s : ℕ} {start : List ℕ} {n i x : ℕ} (rings sums : List ℕ) {put : List ℕ} → 2 ^ size s ≤ length sums → Room (combined (picked rings s)) start n
     → x ≡ 0 → put ≡ set sums 0 x → IsNext room s 0 i → Turned rings s start n put 1 start n i
-unfolding sumsFrom ringsFrom
+unfolding sums_from rings_from
 turned_none {s} {start} {n} {i} {x} rings sums {put} m o z e next =
     record {
       small = omega (arith, ap length e, length-set sums 0 x);
       lent = o;
-      passed = passed-next next;
+      passed = passed_next next;
       power = ap (λ l. 2 ^ length l) (sym none);
-      list = ap (take 1) e ∙ take-suc-set sums 0 x (omega (arith, pow_pos (size s))) ∙ ap (λ y. y ∷ []) z ∙ ap (sumsFrom (0 ∷ [])) (sym none);
-      appended = appended-as (ap combined (sym none)) (appended-none start n);
+      list = ap (take 1) e ∙ take-suc-set sums 0 x (omega (arith, pow_pos (size s))) ∙ ap (λ y. y ∷ []) z ∙ ap (sums_from (0 ∷ [])) (sym none);
+      appended = appended_as (ap combined (sym none)) (appended_none start n);
     }
   where
     none : upto rings s i ≡ []
-    none = passed_first (ringAt rings) next
+    none = passed_first (ring_at rings) next
 
 module _ {rings : List ℕ} {s : ℕ} {start : List ℕ} {n : ℕ} {sums : List ℕ} {half : ℕ} {found : List ℕ} {r i : ℕ}
     (t : Turned rings s start n sums half found r i) where
@@ -149,14 +149,14 @@ module _ {rings : List ℕ} {s : ℕ} {start : List ℕ} {n : ℕ} {sums : List 
     after = drop (count (i + 1) (has s)) (picked rings s)
 
     -- they follow those so far and the next
-    parted : (before ++ ringAt rings i ∷ []) ++ after ≡ picked rings s
+    parted : (before ++ ring_at rings i ∷ []) ++ after ≡ picked rings s
     parted =
-        ap (λ l. l ++ after) (sym (listed-take (has s) (ringAt rings) i refl (t.passed.member h)) ∙ sym (take-listed (i + 1) room (has s) (ringAt rings) (omega arith)))
+        ap (λ l. l ++ after) (sym (listed-take (has s) (ring_at rings) i refl (t.passed.member h)) ∙ sym (take-listed (i + 1) room (has s) (ring_at rings) (omega arith)))
         ∙ take-append-drop (count (i + 1) (has s)) (picked rings s)
 
     -- there is room for the group
-    pub turned-few : half + half ≤ length sums
-    turned-few =
+    pub turned_few : half + half ≤ length sums
+    turned_few =
         omega (
           arith,
           t.power,
@@ -165,8 +165,8 @@ module _ {rings : List ℕ} {s : ℕ} {start : List ℕ} {n : ℕ} {sums : List 
           pow_mono {i = suc (length before)} {j = size s} (omega (
             arith,
             ap length parted,
-            length-append (before ++ ringAt rings i ∷ []) after,
-            length-append before (ringAt rings i ∷ []),
+            length-append (before ++ ring_at rings i ∷ []) after,
+            length-append before (ring_at rings i ∷ []),
             picked-few rings s,
           )),
         )
@@ -174,37 +174,37 @@ module _ {rings : List ℕ} {s : ℕ} {start : List ℕ} {n : ℕ} {sums : List 
     module _ {sums' : List ℕ} {ring : ℕ} (is : ring ≡ get_or rings i 0) (made : Doubled sums half ring sums') where
       -- the rings that are found in its group
       abbrev new : List ℕ
-      new = ringsAmong (between n r found) (between half (half + half) sums')
+      new = rings_among (between n r found) (between half (half + half) sums')
 
       -- it is there
-      pub turned-held : half + half ≤ length sums'
-      turned-held = omega (arith, turned-few, made.long)
+      pub turned_held : half + half ≤ length sums'
+      turned_held = omega (arith, turned_few, made.long)
 
       -- the group stands after the old sets
-      its-group : between half (half + half) sums' ≡ group (ringAt rings i) (sumsFrom (0 ∷ []) before)
-      its-group =
+      its_group : between half (half + half) sums' ≡ group (ring_at rings i) (sums_from (0 ∷ []) before)
+      its_group =
           ap (drop half) made.list
-          ∙ drop_at (take half sums) (group ring (take half sums)) half (length-take-le half sums (omega (arith, turned-few)))
+          ∙ drop_at (take half sums) (group ring (take half sums)) half (length-take-le half sums (omega (arith, turned_few)))
           ∙ ap₂ group is t.list
 
       -- what is found with it
-      found-with : combined before ++ new ≡ combined (before ++ ringAt rings i ∷ [])
+      found-with : combined before ++ new ≡ combined (before ++ ring_at rings i ∷ [])
       found-with =
-          ap₂ (λ l g. combined before ++ ringsAmong l g) (appended-new (omega (arith, t.lent)) t.appended) its-group
-          ∙ sym (rings-snoc (0 ∷ []) [] before (ringAt rings i))
+          ap₂ (λ l g. combined before ++ rings_among l g) (appended_new (omega (arith, t.lent)) t.appended) its_group
+          ∙ sym (rings_snoc (0 ∷ []) [] before (ring_at rings i))
 
       -- there is room for what is found in it
-      pub turned-room : Room new found r
-      turned-room =
-          let with = before ++ ringAt rings i ∷ [] in
-          appended-room new (combined (picked rings s)) t.appended t.lent
+      pub turned_room : Room new found r
+      turned_room =
+          let with = before ++ ring_at rings i ∷ [] in
+          appended_room new (combined (picked rings s)) t.appended t.lent
           (omega (
             arith,
             ap length found-with,
             length-append (combined before) new,
             ap (λ l. length (combined l)) parted,
             ap length (rings-append (0 ∷ []) [] with after),
-            length-append (combined with) (ringsFrom (sumsFrom (0 ∷ []) with) (combined with) after),
+            length-append (combined with) (rings_from (sums_from (0 ∷ []) with) (combined with) after),
           ))
 
       -- the next basis ring
@@ -213,18 +213,18 @@ module _ {rings : List ℕ} {s : ℕ} {start : List ℕ} {n : ℕ} {sums : List 
           record {
             small = omega (arith, t.small, made.long);
             lent = t.lent;
-            passed = passed-next next;
+            passed = passed_next next;
             power =
                 ap₂ ◌+◌ t.power t.power
                 ∙ sym (two-pow-succ (length before))
-                ∙ ap (λ k. 2 ^ k) (sym (ap length more ∙ length-append before (ringAt rings i ∷ []) ∙ add-one (length before)));
-            list = made.list ∙ ap₂ (λ x l. l ++ group x l) is t.list ∙ sym (sums-snoc (0 ∷ []) before (ringAt rings i)) ∙ ap (sumsFrom (0 ∷ [])) (sym more);
-            appended = appended-as (found-with ∙ ap combined (sym more)) (appended-more (omega (arith, t.lent)) t.appended a);
+                ∙ ap (λ k. 2 ^ k) (sym (ap length more ∙ length-append before (ring_at rings i ∷ []) ∙ add-one (length before)));
+            list = made.list ∙ ap₂ (λ x l. l ++ group x l) is t.list ∙ sym (sums_snoc (0 ∷ []) before (ring_at rings i)) ∙ ap (sums_from (0 ∷ [])) (sym more);
+            appended = appended_as (found-with ∙ ap combined (sym more)) (appended_more (omega (arith, t.lent)) t.appended a);
           }
         where
-          more : upto rings s q ≡ before ++ ringAt rings i ∷ []
-          more = passed-more t.passed h next (ringAt rings)
+          more : upto rings s q ≡ before ++ ring_at rings i ∷ []
+          more = passed_more t.passed h next (ring_at rings)
 
   -- after the last all are combined
-  pub turned-all : room ≤ i → Appended start n (combined (picked rings s)) found r
-  turned-all h = appended-as (ap combined (passed-all (ringAt rings) t.passed h)) t.appended
+  pub turned_all : room ≤ i → Appended start n (combined (picked rings s)) found r
+  turned_all h = appended_as (ap combined (passed_all (ring_at rings) t.passed h)) t.appended

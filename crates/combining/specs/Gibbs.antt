@@ -14,27 +14,27 @@ unfoldable pub clear? : List ℕ → ℕ → Bool
 clear? found s = every (length found) (λ j. not (sub (get_or found j 0) s))
 
 -- the sums of a list inside which no ring lies that is found already
-abbrev pub ringsAmong : List ℕ → List ℕ → List ℕ
-ringsAmong found sums = keep (clear? found) sums
+abbrev pub rings_among : List ℕ → List ℕ → List ℕ
+rings_among found sums = keep (clear? found) sums
 
 -- the rings that are found more, group after group, where those of the groups before are given
-unfoldable pub ringsFrom : List ℕ → List ℕ → List ℕ → List ℕ
-ringsFrom olds found [] = []
-ringsFrom olds found (r ∷ rs) =
-    let new = ringsAmong found (group r olds) in
-    new ++ ringsFrom (olds ++ group r olds) (found ++ new) rs
+unfoldable pub rings_from : List ℕ → List ℕ → List ℕ → List ℕ
+rings_from olds found [] = []
+rings_from olds found (r ∷ rs) =
+    let new = rings_among found (group r olds) in
+    new ++ rings_from (olds ++ group r olds) (found ++ new) rs
 
 -- what the combination finds
 abbrev pub combined : List ℕ → List ℕ
-combined rs = ringsFrom (0 ∷ []) [] rs
+combined rs = rings_from (0 ∷ []) [] rs
 
 -- what it finds in assembly a, where the sets of basis rings are given
 abbrev pub found_at : List ℕ → List ℕ → ℕ → List ℕ
 found_at rings members a = combined (picked rings (get_or members a 0))
 
 -- what it finds in the first n assemblies, one after another
-abbrev pub foundIn : List ℕ → List ℕ → ℕ → List ℕ
-foundIn rings members n = gather n (found_at rings members)
+abbrev pub found_in : List ℕ → List ℕ → ℕ → List ℕ
+found_in rings members n = gather n (found_at rings members)
 
 -- the old sets of a list are followed by the group of a basis ring
 pub record Doubled (start : List ℕ) (half ring : ℕ) (sums : List ℕ) : Type 0 where

@@ -5,19 +5,19 @@ ghost use Rattle.std.specs.Prelude.{◌≡◌, ◌+◌, ◌^◌, ◌<◌, ◌≤
 ghost use Rattle.sets.specs.Bits as set;
 ghost use Rattle.sets.specs.Bond.{bits};
 ghost use Rattle.sets.specs.Ring as superset;
-ghost use Rattle.sets.specs.Lists.{setsIn};
+ghost use Rattle.sets.specs.Lists.{sets_in};
 ghost use Rattle.definitions.specs.Search.{picked};
 ghost use Rattle.lent.specs.Appended.{Room, Appended, between};
-ghost use Rattle.combining.specs.Gibbs.{clear?, ringsAmong, combined, Doubled};
+ghost use Rattle.combining.specs.Gibbs.{clear?, rings_among, combined, Doubled};
 
 use answers::BASIS_WORDS;
 use sets::{BondSet, RingSet};
 
 // The old sets are followed by the group of a basis ring.
 fn double(sums: &mut [u64], half: usize, ring: BondSet)
-    requires { half + half ≤ length (setsIn sums.old) }
+    requires { half + half ≤ length (sets_in sums.old) }
     ensures long { length sums.new ≡ length sums.old }
-    ensures sums { Doubled (setsIn sums.old) half (bits ring) (setsIn sums.new) }
+    ensures sums { Doubled (sets_in sums.old) half (bits ring) (sets_in sums.new) }
 {
     let mut j: usize = 0;
     while j < half {
@@ -29,8 +29,8 @@ fn double(sums: &mut [u64], half: usize, ring: BondSet)
 // Does none of the rings found from one place up to another lie inside a sum? This is most of a cage's time, and the time goes into
 // branches: two rings are held against the sum in a turn.
 fn is_ring(found: &[u64], from: usize, to: usize, sum: BondSet) -> bool
-    requires { (from ≤ to) × (to ≤ length (setsIn found.now)) }
-    ensures { result ≡ clear? (between from to (setsIn found.now)) (bits sum) }
+    requires { (from ≤ to) × (to ≤ length (sets_in found.now)) }
+    ensures { result ≡ clear? (between from to (sets_in found.now)) (bits sum) }
 {
     let mut i = from;
     while to - i > 1 {
@@ -49,9 +49,9 @@ fn is_ring(found: &[u64], from: usize, to: usize, sum: BondSet) -> bool
 
 // The sum at a place follows the rings found where it is a ring, which those from one place up to another tell.
 fn add_sum(sums: &[u64], j: usize, found: &mut [u64], from: usize, to: usize, n: usize) -> usize
-    requires { (j < length (setsIn sums.now)) × (from ≤ to) × (to ≤ n) × (Room (ringsAmong (between from to (setsIn found.old)) (between j (j + 1) (setsIn sums.now))) (setsIn found.old) n) }
+    requires { (j < length (sets_in sums.now)) × (from ≤ to) × (to ≤ n) × (Room (rings_among (between from to (sets_in found.old)) (between j (j + 1) (sets_in sums.now))) (sets_in found.old) n) }
     ensures long { length found.new ≡ length found.old }
-    ensures added { Appended (setsIn found.old) n (ringsAmong (between from to (setsIn found.old)) (between j (j + 1) (setsIn sums.now))) (setsIn found.new) result }
+    ensures added { Appended (sets_in found.old) n (rings_among (between from to (sets_in found.old)) (between j (j + 1) (sets_in sums.now))) (sets_in found.new) result }
 {
     let sum = BondSet::at(sums, j);
     if is_ring(found, from, to, sum) {
@@ -63,9 +63,9 @@ fn add_sum(sums: &[u64], j: usize, found: &mut [u64], from: usize, to: usize, n:
 
 // The rings of a group, which are told by the rings found before it from one place on, follow these.
 fn add_group(sums: &[u64], half: usize, found: &mut [u64], from: usize, n: usize) -> usize
-    requires { (half + half ≤ length (setsIn sums.now)) × (from ≤ n) × (Room (ringsAmong (between from n (setsIn found.old)) (between half (half + half) (setsIn sums.now))) (setsIn found.old) n) }
+    requires { (half + half ≤ length (sets_in sums.now)) × (from ≤ n) × (Room (rings_among (between from n (sets_in found.old)) (between half (half + half) (sets_in sums.now))) (sets_in found.old) n) }
     ensures long { length found.new ≡ length found.old }
-    ensures added { Appended (setsIn found.old) n (ringsAmong (between from n (setsIn found.old)) (between half (half + half) (setsIn sums.now))) (setsIn found.new) result }
+    ensures added { Appended (sets_in found.old) n (rings_among (between from n (sets_in found.old)) (between half (half + half) (sets_in sums.now))) (sets_in found.new) result }
 {
     let mut count = n;
     let mut j = half;
@@ -84,10 +84,10 @@ pub fn add_assembly(
     found: &mut [u64],
     n: usize,
 ) -> usize
-    requires { (2 ^ set.size (superset.bits members) ≤ length (setsIn sums.old)) × (Room (combined (picked (setsIn rings.now) (superset.bits members))) (setsIn found.old) n) }
+    requires { (2 ^ set.size (superset.bits members) ≤ length (sets_in sums.old)) × (Room (combined (picked (sets_in rings.now) (superset.bits members))) (sets_in found.old) n) }
     ensures sums { length sums.new ≡ length sums.old }
     ensures found { length found.new ≡ length found.old }
-    ensures added { Appended (setsIn found.old) n (combined (picked (setsIn rings.now) (superset.bits members))) (setsIn found.new) result }
+    ensures added { Appended (sets_in found.old) n (combined (picked (sets_in rings.now) (superset.bits members))) (sets_in found.new) result }
 {
     BondSet::EMPTY.put_at(sums, 0);
     let mut half: usize = 1;

@@ -1,7 +1,7 @@
 -- The laws of exclusive or on tests. Assumes nothing.
 use mathlib.Core.Path.{◌≡◌, refl, sym, ap, ◌∙◌}
 use mathlib.Core.Bool.{Bool, true, false, ◌&&◌, ◌||◌, xor, true≢false}
-pub use Rattle.sets.proofs.Laws.{test-xor-assoc as xor_assoc}
+pub use Rattle.sets.proofs.Laws.{test_xor_assoc as xor_assoc}
 
 -- exclusive or with false changes nothing
 pub xor-false : (a : Bool) → xor a false ≡ a
@@ -30,15 +30,15 @@ xor_comm false true = refl
 xor_comm false false = refl
 
 -- so, by grouping three, two of them may change places
-pub xor-left-comm : (a b c : Bool) → xor a (xor b c) ≡ xor b (xor a c)
-xor-left-comm a b c = sym (xor_assoc a b c) ∙ ap (λ (x : Bool). xor x c) (xor_comm a b) ∙ xor_assoc b a c
+pub xor-left_comm : (a b c : Bool) → xor a (xor b c) ≡ xor b (xor a c)
+xor-left_comm a b c = sym (xor_assoc a b c) ∙ ap (λ (x : Bool). xor x c) (xor_comm a b) ∙ xor_assoc b a c
 
 -- what is taken twice is not there
-pub xor-cancel : (a b : Bool) → xor a (xor a b) ≡ b
-xor-cancel a b = sym (xor_assoc a a b) ∙ ap (λ (x : Bool). xor x b) (xor_self a) ∙ false-xor b
+pub xor_cancel : (a b : Bool) → xor a (xor a b) ≡ b
+xor_cancel a b = sym (xor_assoc a a b) ∙ ap (λ (x : Bool). xor x b) (xor_self a) ∙ false-xor b
 
 -- sorts and cancels
-pub ruleset sums = (xor_assoc, xor_comm, xor-left-comm, xor_self, xor-cancel, xor-false, false-xor)
+pub ruleset sums = (xor_assoc, xor_comm, xor-left_comm, xor_self, xor_cancel, xor-false, false-xor)
 
 -- two tests that differ nowhere are one
 pub xor-eq : (a b : Bool) → xor a b ≡ false → a ≡ b

@@ -11,16 +11,16 @@ use native.Mathlib.Nat.{le_antisymm}
 use native.Mathlib.Decide.{le_ind}
 use native.Mathlib.Omega.{arith}
 use Rattle.sets.specs.Bits.{has, IsNext}
-use Rattle.sets.proofs.Upto.{next-rises}
+use Rattle.sets.proofs.Upto.{next_rises}
 use Rattle.definitions.specs.Search.{listed}
-use Rattle.definitions.proofs.Lists.{listed-zero, listed-skip, listed-take}
+use Rattle.definitions.proofs.Lists.{listed-zero, listed_skip, listed-take}
 
 -- where no number from k up to n passes, the same are listed below both
-pub listed-gap : {A : Type 0} (p : ℕ → Bool) (f : ℕ → A) (k n : ℕ) → k ≤ n → ((j : ℕ) → k ≤ j → j < n → p j ≡ false) → listed n p f ≡ listed k p f
-listed-gap p f k n h none =
+pub listed_gap : {A : Type 0} (p : ℕ → Bool) (f : ℕ → A) (k n : ℕ) → k ≤ n → ((j : ℕ) → k ≤ j → j < n → p j ≡ false) → listed n p f ≡ listed k p f
+listed_gap p f k n h none =
     le_ind (λ m. ((j : ℕ) → k ≤ j → j < m → p j ≡ false) → listed m p f ≡ listed k p f) (λ z. refl)
     (λ m (l : k ≤ m) ih z.
-    ap (λ (i : ℕ). listed i p f) (sym (add-one m)) ∙ listed-skip p f m refl (z m l (omega arith)) ∙ ih (λ j a b. z j a (omega arith))) n h none
+    ap (λ (i : ℕ). listed i p f) (sym (add-one m)) ∙ listed_skip p f m refl (z m l (omega arith)) ∙ ih (λ j a b. z j a (omega arith))) n h none
 
 -- the members of s below i are passed, and i is the next one below m, or m
 pub record Passed (m s i : ℕ) : Type 0 where
@@ -28,22 +28,22 @@ pub record Passed (m s i : ℕ) : Type 0 where
   pub member : i < m → has s i ≡ true
 
 -- what `next` gives is such a place
-pub passed-next : {m s from i : ℕ} → IsNext m s from i → Passed m s i
-passed-next n = record { within = n.within; member = n.member }
+pub passed_next : {m s from i : ℕ} → IsNext m s from i → Passed m s i
+passed_next n = record { within = n.within; member = n.member }
 
 -- before the first member nothing is listed
 pub passed_first : {A : Type 0} {m s i : ℕ} (f : ℕ → A) → IsNext m s 0 i → listed i (has s) f ≡ []
-passed_first {A} {m} {s} {i} f n = listed-gap (has s) f 0 i (omega arith) n.none ∙ listed-zero (has s) f
+passed_first {A} {m} {s} {i} f n = listed_gap (has s) f 0 i (omega arith) n.none ∙ listed-zero (has s) f
 
 module _ {m s i j : ℕ} (p : Passed m s i) (l : i < m) (n : IsNext m s (i + 1) j) where
   -- the place rises
-  pub passed-rises : i < j
-  passed-rises = next-rises m s i j l n
+  pub passed_rises : i < j
+  passed_rises = next_rises m s i j l n
 
   -- one member more is listed, the last
-  pub passed-more : {A : Type 0} (f : ℕ → A) → listed j (has s) f ≡ listed i (has s) f ++ (f i ∷ [])
-  passed-more f = listed-gap (has s) f (i + 1) j (omega (arith, passed-rises)) n.none ∙ listed-take (has s) f i refl (p.member l)
+  pub passed_more : {A : Type 0} (f : ℕ → A) → listed j (has s) f ≡ listed i (has s) f ++ (f i ∷ [])
+  passed_more f = listed_gap (has s) f (i + 1) j (omega (arith, passed_rises)) n.none ∙ listed-take (has s) f i refl (p.member l)
 
 -- after the last member all are listed
-pub passed-all : {A : Type 0} {m s i : ℕ} (f : ℕ → A) → Passed m s i → m ≤ i → listed i (has s) f ≡ listed m (has s) f
-passed-all {s = s} f p h = ap (λ (k : ℕ). listed k (has s) f) (le_antisymm p.within h)
+pub passed_all : {A : Type 0} {m s i : ℕ} (f : ℕ → A) → Passed m s i → m ≤ i → listed i (has s) f ≡ listed m (has s) f
+passed_all {s = s} f p h = ap (λ (k : ℕ). listed k (has s) f) (le_antisymm p.within h)

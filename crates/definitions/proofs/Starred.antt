@@ -8,17 +8,17 @@ use mathlib.Core.List.{List, [], ◌∷◌, Memᴰ as In}
 use Prim.Native.Nat.{ℕ}
 use lib.Count.{ones, ones_in}
 use Rattle.sets.specs.Bits.{has, with, without}
-use Rattle.definitions.specs.Search.{every, some?, count, listed, setOf, gather, keep, total, unionOf, insert, sort}
-use Rattle.definitions.specs.Table.{Table, table, seenBefore?, first_of, refusal}
+use Rattle.definitions.specs.Search.{every, some?, count, listed, set_of, gather, keep, total, union_of, insert, sort}
+use Rattle.definitions.specs.Table.{Table, table, seen_before?, first_of, refusal}
 use Rattle.definitions.specs.Ring.{degree, even?, ring?}
-use Rattle.definitions.specs.Basis.{merge, classes, endsBelow, fragments, closure?, forest, basisRing, basisRings}
-use Rattle.definitions.specs.Fragment.{fragmentOf, fragmentCount}
-use Rattle.definitions.specs.Assembly.{sharing, leaders, rank, assembliesOf, assemblyCount, ringsIn, assemblies, tangled?}
-use Rattle.definitions.specs.AllRings.{before, allRings}
-use Rattle.definitions.specs.Smallest.{chosen, sum?, taking, smallestBasis}
-use Rattle.definitions.specs.Reduced.{exchange, along, across, same?, sweeps, weight, reduced, reducedBasis}
-use Rattle.definitions.specs.Label.{bytes_of, bytesOfAll, field, occurs, histogram, frerejacque, pairOf, assemblyPairs, label_of}
-use Rattle.definitions.specs.Answer.{refusalOfRings}
+use Rattle.definitions.specs.Basis.{merge, classes, ends_below, fragments, closure?, forest, basis_ring, basis_rings}
+use Rattle.definitions.specs.Fragment.{fragment_of, fragment_count}
+use Rattle.definitions.specs.Assembly.{sharing, leaders, rank, assemblies_of, assembly_count, rings_in, assemblies, tangled?}
+use Rattle.definitions.specs.AllRings.{before, all_rings}
+use Rattle.definitions.specs.Smallest.{chosen, sum?, taking, smallest_basis}
+use Rattle.definitions.specs.Reduced.{exchange, along, across, same?, sweeps, weight, reduced, reduced_basis}
+use Rattle.definitions.specs.Label.{bytes_of, bytes_of_all, field, occurs, histogram, frerejacque, pair_of, assembly_pairs, label_of}
+use Rattle.definitions.specs.Answer.{refusal_of_rings}
 use Rattle.definitions.proofs.Lists.{same_lists}
 
 -- what is claimed of a table
@@ -29,14 +29,14 @@ pub data Claim : Type 0 where
 
 -- the list that a claim is about, and the list that it says
 abbrev pub found : Claim → List ℕ
-found (basis M l) = basisRings M
-found (all M l) = allRings M
-found (smallest M l) = smallestBasis M
-found (reduces M l) = reducedBasis M
+found (basis M l) = basis_rings M
+found (all M l) = all_rings M
+found (smallest M l) = smallest_basis M
+found (reduces M l) = reduced_basis M
 found (together M l) = assemblies M
 found (labelled M l) = label_of M
-found (refused M n) = refusalOfRings M ∷ []
-found (accepted M) = refusalOfRings M ∷ []
+found (refused M n) = refusal_of_rings M ∷ []
+found (accepted M) = refusal_of_rings M ∷ []
 
 abbrev pub said : Claim → List ℕ
 said (basis M l) = l
@@ -84,24 +84,24 @@ abbrev pub s10 : Table
 s10 = table 3 (0 ∷ 1 ∷ 1 ∷ 0 ∷ [])
 
 -- the bytes of a label after its first field, for no rings and for the triangle
-abbrev pub noRings : List ℕ
-noRings = 0x02 ∷ 0x00 ∷ 0x00 ∷ 0x03 ∷ 0x00 ∷ 0x00 ∷ 0x04 ∷ 0x00 ∷ 0x00 ∷ []
+abbrev pub no_rings : List ℕ
+no_rings = 0x02 ∷ 0x00 ∷ 0x00 ∷ 0x03 ∷ 0x00 ∷ 0x00 ∷ 0x04 ∷ 0x00 ∷ 0x00 ∷ []
 
-abbrev pub oneTriangle : List ℕ
-oneTriangle = 0x02 ∷ 0x00 ∷ 0x03 ∷ 0x03 ∷ 0x00 ∷ 0x01 ∷ 0x03 ∷ 0x00 ∷ 0x02 ∷ 0x03 ∷ 0x01 ∷ 0x04 ∷ 0x00 ∷ 0x02 ∷ 0x01 ∷ 0x03 ∷ []
+abbrev pub one_triangle : List ℕ
+one_triangle = 0x02 ∷ 0x00 ∷ 0x03 ∷ 0x03 ∷ 0x00 ∷ 0x01 ∷ 0x03 ∷ 0x00 ∷ 0x02 ∷ 0x03 ∷ 0x01 ∷ 0x04 ∷ 0x00 ∷ 0x02 ∷ 0x01 ∷ 0x03 ∷ []
 
 -- every value that is given, S1 to S10 in order
 abbrev pub claims : List Claim
 claims =
     accepted s1
     ∷ all s1 []
-    ∷ labelled s1 (0x01 ∷ 0x00 ∷ 0x01 ∷ 0x00 ∷ noRings)
+    ∷ labelled s1 (0x01 ∷ 0x00 ∷ 0x01 ∷ 0x00 ∷ no_rings)
     ∷ accepted s2
     ∷ all s2 []
-    ∷ labelled s2 (0x01 ∷ 0x00 ∷ 0x01 ∷ 0x00 ∷ noRings)
+    ∷ labelled s2 (0x01 ∷ 0x00 ∷ 0x01 ∷ 0x00 ∷ no_rings)
     ∷ accepted s3
     ∷ basis s3 (7 ∷ [])
-    ∷ labelled s3 (0x01 ∷ 0x00 ∷ 0x01 ∷ 0x01 ∷ oneTriangle)
+    ∷ labelled s3 (0x01 ∷ 0x00 ∷ 0x01 ∷ 0x01 ∷ one_triangle)
     ∷ accepted s4
     ∷ basis s4 (15 ∷ 19 ∷ [])
     ∷ all s4 (19 ∷ 28 ∷ 15 ∷ [])
@@ -122,7 +122,7 @@ claims =
     ∷ all s7 (11 ∷ 21 ∷ 38 ∷ 56 ∷ 30 ∷ 45 ∷ 51 ∷ [])
     ∷ smallest s7 (11 ∷ 21 ∷ 38 ∷ [])
     ∷ accepted s8
-    ∷ labelled s8 (0x01 ∷ 0x00 ∷ 0x01 ∷ 0x01 ∷ oneTriangle)
+    ∷ labelled s8 (0x01 ∷ 0x00 ∷ 0x01 ∷ 0x01 ∷ one_triangle)
     ∷ refused s9 4
     ∷ refused s10 6
     ∷ []
@@ -134,7 +134,7 @@ agree [] = true
 agree (c ∷ cs) = same? (found c) (said c) && agree cs
 
 computed : agree claims ≡ true
-unfolding agree every some? count listed setOf gather keep total unionOf insert sort seenBefore? first_of refusal degree even? ring? merge classes endsBelow fragments closure? forest basisRing basisRings sharing leaders rank assembliesOf assemblyCount ringsIn assemblies tangled? before allRings chosen sum? taking smallestBasis exchange along across same? sweeps weight reduced reducedBasis bytes_of bytesOfAll field occurs histogram fragmentOf fragmentCount frerejacque pairOf assemblyPairs label_of refusalOfRings has with without ones ones_in
+unfolding agree every some? count listed set_of gather keep total union_of insert sort seen_before? first_of refusal degree even? ring? merge classes ends_below fragments closure? forest basis_ring basis_rings sharing leaders rank assemblies_of assembly_count rings_in assemblies tangled? before all_rings chosen sum? taking smallest_basis exchange along across same? sweeps weight reduced reduced_basis bytes_of bytes_of_all field occurs histogram fragment_of fragment_count frerejacque pair_of assembly_pairs label_of refusal_of_rings has with without ones ones_in
 computed = refl
 
 agreed : (cs : List Claim) → agree cs ≡ true → (c : Claim) → In c cs → found c ≡ said c
@@ -143,5 +143,5 @@ agreed (d ∷ cs) e c (here i) = ap found i ∙ same_lists (found d) (said d) ((
 agreed (d ∷ cs) e c (there i) = agreed cs ((and-eq-true_iff (same? (found d) (said d)) (agree cs)).0 e).1 c i
 
 -- each starred example holds of the definitions
-pub starred-examples : (c : Claim) → In c claims → found c ≡ said c
-starred-examples = agreed claims computed
+pub starred_examples : (c : Claim) → In c claims → found c ≡ said c
+starred_examples = agreed claims computed

@@ -17,14 +17,14 @@ by true f g = f refl
 by false f g = g refl
 
 -- a test that does not pass fails
-pub not-passed : (b : Bool) → (b ≡ true → ⊥) → b ≡ false
-not-passed true h = absurd (h refl)
-not-passed false h = refl
+pub not_passed : (b : Bool) → (b ≡ true → ⊥) → b ≡ false
+not_passed true h = absurd (h refl)
+not_passed false h = refl
 
 -- a test that does not fail passes
-pub not-failed : (b : Bool) → (b ≡ false → ⊥) → b ≡ true
-not-failed true h = refl
-not-failed false h = absurd (h refl)
+pub not_failed : (b : Bool) → (b ≡ false → ⊥) → b ≡ true
+not_failed true h = refl
+not_failed false h = absurd (h refl)
 
 -- no test both passes and fails
 pub clashes : {A : Type 0} {b : Bool} → b ≡ true → b ≡ false → A
@@ -42,8 +42,8 @@ and_both true b e = (refl, e)
 and_both false b e = absurd (false≢true e)
 
 -- two tests that pass, pass together
-pub both-and : {a b : Bool} → a ≡ true → b ≡ true → a && b ≡ true
-both-and p q = rw (p, q)
+pub both_and : {a b : Bool} → a ≡ true → b ≡ true → a && b ≡ true
+both_and p q = rw (p, q)
 
 -- one of two tests passes
 pub or-one : (a b : Bool) → a || b ≡ true → (a ≡ true) ⊎ (b ≡ true)
@@ -51,13 +51,13 @@ or-one true b e = inl refl
 or-one false b e = inr e
 
 -- neither of two tests passes
-pub or-neither : (a b : Bool) → a || b ≡ false → (a ≡ false) × (b ≡ false)
-or-neither true b e = absurd (true≢false e)
-or-neither false b e = (refl, e)
+pub or_neither : (a b : Bool) → a || b ≡ false → (a ≡ false) × (b ≡ false)
+or_neither true b e = absurd (true≢false e)
+or_neither false b e = (refl, e)
 
 -- a number is itself, as a test
-pub eqb-self : (n : ℕ) → eqb n n ≡ true
-eqb-self n = eq-eqb n n refl
+pub eqb_self : (n : ℕ) → eqb n n ≡ true
+eqb_self n = eq-eqb n n refl
 
 -- what counts k where x is below m + 1 counts it where x is below m, or m
 pub below_next : (x m k : ℕ) → cond (ltb x (suc m)) k 0 ≡ cond (ltb x m) k 0 + cond (eqb x m) k 0
@@ -108,24 +108,24 @@ none-at (suc n) p e k l =
 
 -- a number below n that passes is found
 pub some_of : (n : ℕ) (p : ℕ → Bool) (k : ℕ) → k < n → p k ≡ true → some? n p ≡ true
-some_of n p k l h = not-failed (some? n p) (λ e. true≢false (sym h ∙ none-at n p e k l))
+some_of n p k l h = not_failed (some? n p) (λ e. true≢false (sym h ∙ none-at n p e k l))
 
 -- each number below n fails: none is found
 pub none_of : (n : ℕ) (p : ℕ → Bool) → ((k : ℕ) → k < n → p k ≡ false) → some? n p ≡ false
-none_of n p h = not-passed (some? n p) (λ e. let r = some_at n p e in true≢false (sym r.2 ∙ h r.0 r.1))
+none_of n p h = not_passed (some? n p) (λ e. let r = some_at n p e in true≢false (sym r.2 ∙ h r.0 r.1))
 
 -- not every number below n passes: there is one that fails
-pub every-fails : (n : ℕ) (p : ℕ → Bool) → every n p ≡ false → (k : ℕ) × (k < n) × (p k ≡ false)
+pub every_fails : (n : ℕ) (p : ℕ → Bool) → every n p ≡ false → (k : ℕ) × (k < n) × (p k ≡ false)
 unfolding every
-every-fails zero p e = absurd (true≢false e)
-every-fails (suc n) p e =
+every_fails zero p e = absurd (true≢false e)
+every_fails (suc n) p e =
     by (p n)
-    (λ h. let r = every-fails n p (rw (h, every) at e) in (r.0, omega arith, r.2))
+    (λ h. let r = every_fails n p (rw (h, every) at e) in (r.0, omega arith, r.2))
     (λ h. (n, omega arith, h))
 
 -- of tests that agree below n both find one, or neither
-pub some-ext : (n : ℕ) (p q : ℕ → Bool) → ((k : ℕ) → k < n → p k ≡ q k) → some? n p ≡ some? n q
-some-ext n p q h =
+pub some_ext : (n : ℕ) (p q : ℕ → Bool) → ((k : ℕ) → k < n → p k ≡ q k) → some? n p ≡ some? n q
+some_ext n p q h =
     same_test (some? n p) (some? n q)
     (λ e. let r = some_at n p e in some_of n q r.0 r.1 (sym (h r.0 r.1) ∙ r.2))
     (λ e. let r = some_at n q e in some_of n p r.0 r.1 (h r.0 r.1 ∙ r.2))
@@ -164,7 +164,7 @@ module _ (p : ℕ → Bool) where
 
 -- the test b decides: true says P, false says N, and the two clash
 pub record Tells (b : Bool) (P N : Type 0) : Type 0 where
-  pub yes-says : b ≡ true → P
+  pub yes_says : b ≡ true → P
   pub no_says : b ≡ false → N
   pub clash : P → N → ⊥
 
@@ -175,57 +175,57 @@ module _ {b : Bool} {P N : Type 0} (t : Tells b P N) where
 
   -- what a test says where it fails makes it fail
   pub false_of : N → b ≡ false
-  false_of h = by b (λ e. absurd (t.clash (t.yes-says e) h)) (λ e. e)
+  false_of h = by b (λ e. absurd (t.clash (t.yes_says e) h)) (λ e. e)
 
   -- so the test passes exactly where what it says holds
-  pub tells-iff : (b ≡ true) ↔ P
-  tells-iff = (t.yes-says, true_of)
+  pub tells_iff : (b ≡ true) ↔ P
+  tells_iff = (t.yes_says, true_of)
 
 -- what the test ≤ says
-pub tells-leb : (m n : ℕ) → Tells (leb m n) (m ≤ n) (n < m)
-tells-leb m n = record { yes-says = leb-true m n; no_says = leb-false m n; clash = λ p q. omega arith }
+pub tells_leb : (m n : ℕ) → Tells (leb m n) (m ≤ n) (n < m)
+tells_leb m n = record { yes_says = leb-true m n; no_says = leb-false m n; clash = λ p q. omega arith }
 
 -- what the test < says
-pub tells-ltb : (m n : ℕ) → Tells (ltb m n) (m < n) (n ≤ m)
-tells-ltb m n = record { yes-says = ltb-true m n; no_says = ltb-false m n; clash = λ p q. omega arith }
+pub tells_ltb : (m n : ℕ) → Tells (ltb m n) (m < n) (n ≤ m)
+tells_ltb m n = record { yes_says = ltb-true m n; no_says = ltb-false m n; clash = λ p q. omega arith }
 
 -- what the test of two numbers says
-pub tells-eqb : (m n : ℕ) → Tells (eqb m n) (m ≡ n) (m ≡ n → ⊥)
-tells-eqb m n = record { yes-says = eqb-true m n; no_says = eqb-false m n; clash = λ p q. q p }
+pub tells_eqb : (m n : ℕ) → Tells (eqb m n) (m ≡ n) (m ≡ n → ⊥)
+tells_eqb m n = record { yes_says = eqb-true m n; no_says = eqb-false m n; clash = λ p q. q p }
 
 -- the same test, said in other words
 pub tells_as : {b : Bool} {P N P' N' : Type 0} → Tells b P N → (P → P') → (N → N') → (P' → N' → ⊥) → Tells b P' N'
-tells_as t f g c = record { yes-says = λ e. f (t.yes-says e); no_says = λ e. g (t.no_says e); clash = c }
+tells_as t f g c = record { yes_says = λ e. f (t.yes_says e); no_says = λ e. g (t.no_says e); clash = c }
 
 -- what fails where a test fails is what the test says
-pub tells-not : {b : Bool} {P N : Type 0} → Tells b P N → Tells b P (P → ⊥)
-tells-not t = tells_as t (λ p. p) (λ n p. t.clash p n) (λ p q. q p)
+pub tells_not : {b : Bool} {P N : Type 0} → Tells b P N → Tells b P (P → ⊥)
+tells_not t = tells_as t (λ p. p) (λ n p. t.clash p n) (λ p q. q p)
 
 -- what a test says that is to fail
-pub tells-turned : {b : Bool} {P N : Type 0} → Tells b P N → Tells (not b) N P
-tells-turned {b} t = record { yes-says = λ e. t.no_says (not-true b e); no_says = λ e. t.yes-says (not-false b e); clash = λ n p. t.clash p n }
+pub tells_turned : {b : Bool} {P N : Type 0} → Tells b P N → Tells (not b) N P
+tells_turned {b} t = record { yes_says = λ e. t.no_says (not-true b e); no_says = λ e. t.yes_says (not-false b e); clash = λ n p. t.clash p n }
 
 module _ {P Q N M : Type 0} where
   -- what two tests say of which one is to pass
-  pub tells-or : {a b : Bool} → Tells a P N → Tells b Q M → Tells (a || b) (P ⊎ Q) (N × M)
-  tells-or {a} {b} s t = record {
-    yes-says = λ e. ⊎_elim (λ x. inl (s.yes-says x)) (λ y. inr (t.yes-says y)) (or-one a b e);
-    no_says = λ e. (s.no_says (or-neither a b e).0, t.no_says (or-neither a b e).1);
+  pub tells_or : {a b : Bool} → Tells a P N → Tells b Q M → Tells (a || b) (P ⊎ Q) (N × M)
+  tells_or {a} {b} s t = record {
+    yes_says = λ e. ⊎_elim (λ x. inl (s.yes_says x)) (λ y. inr (t.yes_says y)) (or-one a b e);
+    no_says = λ e. (s.no_says (or_neither a b e).0, t.no_says (or_neither a b e).1);
     clash = λ e k. ⊎_elim (λ p. s.clash p k.0) (λ q. t.clash q k.1) e;
   }
 
   -- what two tests say that are both to pass
-  pub tells-and : {a b : Bool} → Tells a P N → Tells b Q M → Tells (a && b) (P × Q) (N ⊎ M)
-  tells-and {a} {b} s t = record {
-    yes-says = λ e. (s.yes-says (and_both a b e).0, t.yes-says (and_both a b e).1);
+  pub tells_and : {a b : Bool} → Tells a P N → Tells b Q M → Tells (a && b) (P × Q) (N ⊎ M)
+  tells_and {a} {b} s t = record {
+    yes_says = λ e. (s.yes_says (and_both a b e).0, t.yes_says (and_both a b e).1);
     no_says = λ e. by a (λ x. inr (t.no_says (rw x at e))) (λ x. inl (s.no_says x));
     clash = λ k e. ⊎_elim (λ p. s.clash k.0 p) (λ q. t.clash k.1 q) e;
   }
 
 -- a search says that there is one
-pub tells-some : {P N : ℕ → Type 0} {p : ℕ → Bool} → ((k : ℕ) → Tells (p k) (P k) (N k)) → (n : ℕ) → Tells (some? n p) (Some n P) (Each n N)
-tells-some {p = p} t n = record {
-  yes-says = λ e. let r = some_at n p e in (r.0, r.1, (t r.0).yes-says r.2);
+pub tells_some : {P N : ℕ → Type 0} {p : ℕ → Bool} → ((k : ℕ) → Tells (p k) (P k) (N k)) → (n : ℕ) → Tells (some? n p) (Some n P) (Each n N)
+tells_some {p = p} t n = record {
+  yes_says = λ e. let r = some_at n p e in (r.0, r.1, (t r.0).yes_says r.2);
   no_says = λ e k l. (t k).no_says (none-at n p e k l);
   clash = λ s e. (t s.0).clash s.2 (e s.0 s.1);
 }

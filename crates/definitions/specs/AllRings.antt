@@ -10,5 +10,5 @@ unfoldable pub before : ℕ → ℕ → Bool
 before s t = ltb (size s) (size t) || (eqb (size s) (size t) && ltb s t)
 
 -- every ring of a table, once, in this order
-unfoldable pub allRings : Table → List ℕ
-allRings M = sort before (those (2 ^ bonds M) (ring? M))
+unfoldable pub all_rings : Table → List ℕ
+all_rings M = sort before (those (2 ^ bonds M) (ring? M))

@@ -2,7 +2,7 @@
 -- back or left in what was lent. A refusal has count 0 and leaves what was lent as it was. Assumes nothing.
 use Rattle.std.specs.Prelude.{Bool, true, ◌&&◌, not, cond, List, [], ◌∷◌, ◌++◌, ℕ, zero, suc, length, drop, leb}
 use Rattle.sets.specs.Lists.{in_words}
-use Rattle.definitions.specs.Table.{Table, first_of, tableTests, TANGLED, ROOM, NOTRING}
+use Rattle.definitions.specs.Table.{Table, first_of, table_tests, TANGLED, ROOM, NOTRING}
 use Rattle.definitions.specs.Ring.{ring?}
 use Rattle.definitions.specs.Assembly.{tangled?}
 
@@ -12,13 +12,13 @@ pub record Outcome (A : Type 0) : Type 0 where
   pub count : ℕ
   pub left : A
 
-abbrev pub outcomeOf : {A : Type 0} → ℕ → ℕ → A → Outcome A
-outcomeOf n k l = record { number = n; count = k; left = l }
+abbrev pub outcome_of : {A : Type 0} → ℕ → ℕ → A → Outcome A
+outcome_of n k l = record { number = n; count = k; left = l }
 
 -- c is the refusal, or 0; n things are given, and this is then left, if only there is room; what was lent is left in every other case
 unfoldable pub outcome : {A : Type 0} → ℕ → Bool → ℕ → A → A → Outcome A
-outcome zero room n given lent = cond room (outcomeOf 0 n given) (outcomeOf ROOM 0 lent)
-outcome (suc c) room n given lent = outcomeOf (suc c) 0 lent
+outcome zero room n given lent = cond room (outcome_of 0 n given) (outcome_of ROOM 0 lent)
+outcome (suc c) room n given lent = outcome_of (suc c) 0 lent
 
 -- the items over the start of a list, the rest as it was
 unfoldable pub over : List ℕ → List ℕ → List ℕ
@@ -29,12 +29,12 @@ unfoldable pub written : ℕ → List ℕ → List ℕ → Outcome (List ℕ)
 written c items lent = outcome c (leb (length items) (length lent)) (length items) (over items lent) lent
 
 -- sets are written as words over the start of a lent list, and the sets are counted
-unfoldable pub writtenSets : ℕ → List ℕ → List ℕ → Outcome (List ℕ)
-writtenSets c sets lent = outcome c (leb (length (in_words sets)) (length lent)) (length sets) (over (in_words sets) lent) lent
+unfoldable pub written_sets : ℕ → List ℕ → List ℕ → Outcome (List ℕ)
+written_sets c sets lent = outcome c (leb (length (in_words sets)) (length lent)) (length sets) (over (in_words sets) lent) lent
 
 -- two lists of one length are written over the start of two lent ones, both or neither, and the length of one is counted
-unfoldable pub writtenBoth : ℕ → List ℕ × List ℕ → List ℕ × List ℕ → Outcome (List ℕ × List ℕ)
-writtenBoth c items lent =
+unfoldable pub written_both : ℕ → List ℕ × List ℕ → List ℕ × List ℕ → Outcome (List ℕ × List ℕ)
+written_both c items lent =
     outcome c (leb (length items.0) (length lent.0) && leb (length items.1) (length lent.1)) (length items.0)
     (over items.0 lent.0, over items.1 lent.1)
     lent
@@ -44,9 +44,9 @@ unfoldable pub counted : ℕ → ℕ → Outcome (List ℕ)
 counted c n = outcome c true n [] []
 
 -- the table's refusals, and after them that of an assembly with too many basis rings: for all rings, smallest basis and label
-unfoldable pub refusalOfRings : Table → ℕ
-refusalOfRings M = first_of (tableTests M ++ ((TANGLED, tangled? M) ∷ []))
+unfoldable pub refusal_of_rings : Table → ℕ
+refusal_of_rings M = first_of (table_tests M ++ ((TANGLED, tangled? M) ∷ []))
 
 -- the table's refusals, and after them that of a set which is no ring: for the walk round it
-unfoldable pub refusalOfWalk : Table → ℕ → ℕ
-refusalOfWalk M s = first_of (tableTests M ++ ((NOTRING, not (ring? M s)) ∷ []))
+unfoldable pub refusal_of_walk : Table → ℕ → ℕ
+refusal_of_walk M s = first_of (table_tests M ++ ((NOTRING, not (ring? M s)) ∷ []))

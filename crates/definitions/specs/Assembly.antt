@@ -4,7 +4,7 @@ use Rattle.std.specs.Prelude.{◌≡◌, Bool, true, List, map, ℕ, ◌<◌, le
 use Rattle.sets.specs.Bits.{meet}
 use Rattle.definitions.specs.Search.{some?, count, listed, gather}
 use Rattle.definitions.specs.Table.{Table}
-use Rattle.definitions.specs.Basis.{classes, basisRings}
+use Rattle.definitions.specs.Basis.{classes, basis_rings}
 
 -- basis rings i and j share a bond
 abbrev pub share? : List ℕ → ℕ → ℕ → Bool
@@ -28,25 +28,25 @@ unfoldable pub rank : List ℕ → ℕ → ℕ
 rank l x = count x (λ i. eqb (get_or l i 0) i)
 
 -- the assembly of each basis ring
-unfoldable pub assembliesOf : List ℕ → List ℕ
-assembliesOf rs = let l = leaders rs in map (rank l) l
+unfoldable pub assemblies_of : List ℕ → List ℕ
+assemblies_of rs = let l = leaders rs in map (rank l) l
 
 -- how many assemblies there are
-unfoldable pub assemblyCount : List ℕ → ℕ
-assemblyCount rs = rank (leaders rs) (length rs)
+unfoldable pub assembly_count : List ℕ → ℕ
+assembly_count rs = rank (leaders rs) (length rs)
 
 -- the basis rings of assembly a, in order
-unfoldable pub ringsIn : List ℕ → ℕ → List ℕ
-ringsIn rs a = let ns = assembliesOf rs in listed (length rs) (λ i. eqb (get_or ns i 0) a) (λ i. get_or rs i 0)
+unfoldable pub rings_in : List ℕ → ℕ → List ℕ
+rings_in rs a = let ns = assemblies_of rs in listed (length rs) (λ i. eqb (get_or ns i 0) a) (λ i. get_or rs i 0)
 
 -- the assembly of each basis ring of a table
 unfoldable pub assemblies : Table → List ℕ
-assemblies M = assembliesOf (basisRings M)
+assemblies M = assemblies_of (basis_rings M)
 
 -- the most basis rings that an assembly may have where all rings are needed
-abbrev pub maxAssembly : ℕ
-maxAssembly = 10
+abbrev pub max_assembly : ℕ
+max_assembly = 10
 
 -- some assembly has more basis rings than that
 unfoldable pub tangled? : Table → Bool
-tangled? M = let rs = basisRings M in some? (assemblyCount rs) (λ a. ltb maxAssembly (length (ringsIn rs a)))
+tangled? M = let rs = basis_rings M in some? (assembly_count rs) (λ a. ltb max_assembly (length (rings_in rs a)))

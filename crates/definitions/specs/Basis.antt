@@ -1,7 +1,7 @@
 -- Ring closure bonds, the spanning forest and the basis rings. Assumes nothing.
 use Rattle.std.specs.Prelude.{◌≡◌, Bool, true, false, ◌&&◌, not, cond, List, [], ◌∷◌, map, ℕ, zero, suc, ◌^◌, ◌<◌, min, max, get_or, eqb, ltb}
 use Rattle.sets.specs.Bits.{has, sub, with}
-use Rattle.definitions.specs.Search.{listed, those, setOf}
+use Rattle.definitions.specs.Search.{listed, those, set_of}
 use Rattle.definitions.specs.Table.{Table, bonds, tail, head}
 use Rattle.definitions.specs.Ring.{even?}
 
@@ -35,13 +35,13 @@ classes n [] = those n (λ i. true)
 classes n (e ∷ es) = merge e (classes n es)
 
 -- the ends of the bonds below k
-unfoldable pub endsBelow : Table → ℕ → List (ℕ × ℕ)
-endsBelow M zero = []
-endsBelow M (suc k) = (tail M k, head M k) ∷ endsBelow M k
+unfoldable pub ends_below : Table → ℕ → List (ℕ × ℕ)
+ends_below M zero = []
+ends_below M (suc k) = (tail M k, head M k) ∷ ends_below M k
 
 -- the fragment of each atom, by the bonds below k
 unfoldable pub fragments : Table → ℕ → List ℕ
-fragments M k = classes M.atoms (endsBelow M k)
+fragments M k = classes M.atoms (ends_below M k)
 
 -- bond k closes a ring: by the bonds below k its atoms are in one fragment
 unfoldable pub closure? : Table → ℕ → Bool
@@ -49,7 +49,7 @@ closure? M k = let f = fragments M k in eqb (get_or f (tail M k) 0) (get_or f (h
 
 -- the spanning forest: the bonds that close no ring
 unfoldable pub forest : Table → ℕ
-forest M = setOf (bonds M) (λ k. not (closure? M k))
+forest M = set_of (bonds M) (λ k. not (closure? M k))
 
 -- s is the basis ring of bond k: this closure bond, and a path through the forest from one of its atoms to the other
 pub record BasisRing (M : Table) (k s : ℕ) : Type 0 where
@@ -59,9 +59,9 @@ pub record BasisRing (M : Table) (k s : ℕ) : Type 0 where
   pub whole : s ≡ with way k
 
 -- the same by search: the one even set of bond k and forest bonds
-unfoldable pub basisRing : Table → ℕ → ℕ
-basisRing M k = let f = with (forest M) k in get_or (those (2 ^ bonds M) (λ s. has s k && (sub s f && even? M s))) 0 0
+unfoldable pub basis_ring : Table → ℕ → ℕ
+basis_ring M k = let f = with (forest M) k in get_or (those (2 ^ bonds M) (λ s. has s k && (sub s f && even? M s))) 0 0
 
 -- the basis rings, in the order of their closure bonds
-unfoldable pub basisRings : Table → List ℕ
-basisRings M = listed (bonds M) (closure? M) (basisRing M)
+unfoldable pub basis_rings : Table → List ℕ
+basis_rings M = listed (bonds M) (closure? M) (basis_ring M)

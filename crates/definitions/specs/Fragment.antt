@@ -10,9 +10,9 @@ abbrev pub OneFragment : Table → ℕ → ℕ → Type 0
 OneFragment M a b = (s : ℕ) × Path M (λ j. true) a b s
 
 -- the same as a number: the first atom of the fragment
-unfoldable pub fragmentOf : Table → ℕ → ℕ
-fragmentOf M a = get_or (fragments M (bonds M)) a 0
+unfoldable pub fragment_of : Table → ℕ → ℕ
+fragment_of M a = get_or (fragments M (bonds M)) a 0
 
 -- the number of fragments: how many atoms are the first of theirs
-unfoldable pub fragmentCount : Table → ℕ
-fragmentCount M = count M.atoms (λ a. eqb (fragmentOf M a) a)
+unfoldable pub fragment_count : Table → ℕ
+fragment_count M = count M.atoms (λ a. eqb (fragment_of M a) a)

@@ -6,8 +6,8 @@ use Rattle.std.specs.Int.Bits.{bit_xor}
 use Rattle.sets.specs.Bits.{size}
 use Rattle.definitions.specs.Search.{total, gather}
 use Rattle.definitions.specs.Table.{Table}
-use Rattle.definitions.specs.Basis.{basisRings}
-use Rattle.definitions.specs.Assembly.{assemblyCount, ringsIn}
+use Rattle.definitions.specs.Basis.{basis_rings}
+use Rattle.definitions.specs.Assembly.{assembly_count, rings_in}
 
 -- the exchange at the pair (J, I) of a list of sets
 unfoldable pub exchange : List ℕ → ℕ → ℕ → List ℕ
@@ -54,5 +54,5 @@ unfoldable pub reduced : List ℕ → List ℕ
 reduced l = sweeps (weight l) l
 
 -- the reduced sets of a table, assembly after assembly
-unfoldable pub reducedBasis : Table → List ℕ
-reducedBasis M = let rs = basisRings M in gather (assemblyCount rs) (λ a. reduced (ringsIn rs a))
+unfoldable pub reduced_basis : Table → List ℕ
+reduced_basis M = let rs = basis_rings M in gather (assembly_count rs) (λ a. reduced (rings_in rs a))

@@ -2,10 +2,10 @@
 -- told. Assumes nothing.
 use Rattle.std.specs.Prelude.{◌≡◌, ◌↔◌, ◌⊎◌, List, [], ◌∷◌, ◌++◌, ℕ, ◌%◌, ◌<◌, ◌≤◌, length, get_or}
 use Rattle.definitions.specs.Search.{Each, Some}
-use Rattle.definitions.specs.Table.{Table, bonds, tail, head, maxAtoms, maxBonds, ODD, ATOMS, BONDS, END, SELF, TWICE, TANGLED, ROOM, NOTRING}
+use Rattle.definitions.specs.Table.{Table, bonds, tail, head, max_atoms, max_bonds, ODD, ATOMS, BONDS, END, SELF, TWICE, TANGLED, ROOM, NOTRING}
 use Rattle.definitions.specs.Ring.{Ring}
-use Rattle.definitions.specs.Basis.{basisRings}
-use Rattle.definitions.specs.Assembly.{assemblyCount, ringsIn, maxAssembly}
+use Rattle.definitions.specs.Basis.{basis_rings}
+use Rattle.definitions.specs.Assembly.{assembly_count, rings_in, max_assembly}
 
 -- 1 ODD: half a bond, an odd number of bond bytes
 abbrev pub OddBytes : Table → Type 0
@@ -13,11 +13,11 @@ OddBytes M = length M.bytes % 2 ≡ 1
 
 -- 2 ATOMS: no atom, or more atoms than a table may have
 abbrev pub BadCount : Table → Type 0
-BadCount M = (M.atoms ≡ 0) ⊎ (maxAtoms < M.atoms)
+BadCount M = (M.atoms ≡ 0) ⊎ (max_atoms < M.atoms)
 
 -- 3 BONDS: more bonds than a table may have
 abbrev pub ManyBonds : Table → Type 0
-ManyBonds M = maxBonds < bonds M
+ManyBonds M = max_bonds < bonds M
 
 -- 4 END: a bond has an end that is the atom count or higher
 abbrev pub NamesOutside : Table → Type 0
@@ -37,7 +37,7 @@ BondedTwice M = Some (bonds M) (λ k. Some k (Alike M k))
 
 -- 7 TANGLED: an assembly has more basis rings than it may have where all rings are needed
 abbrev pub Tangled : Table → Type 0
-Tangled M = Some (assemblyCount (basisRings M)) (λ a. maxAssembly < length (ringsIn (basisRings M) a))
+Tangled M = Some (assembly_count (basis_rings M)) (λ a. max_assembly < length (rings_in (basis_rings M) a))
 
 -- 9 NOTRING: a set is no ring of the table
 abbrev pub NoRing : Table → ℕ → Type 0
@@ -59,16 +59,16 @@ wrongs M =
     ∷ []
 
 -- and where all rings are needed, 7 after these
-abbrev pub wrongsOfRings : Table → List (ℕ × Type 0)
-wrongsOfRings M = wrongs M ++ ((TANGLED, Tangled M) ∷ [])
+abbrev pub wrongs_of_rings : Table → List (ℕ × Type 0)
+wrongs_of_rings M = wrongs M ++ ((TANGLED, Tangled M) ∷ [])
 
 -- and where a set is to be walked round, 9 after those of the table
-abbrev pub wrongsOfWalk : Table → ℕ → List (ℕ × Type 0)
-wrongsOfWalk M s = wrongs M ++ ((NOTRING, NoRing M s) ∷ [])
+abbrev pub wrongs_of_walk : Table → ℕ → List (ℕ × Type 0)
+wrongs_of_walk M s = wrongs M ++ ((NOTRING, NoRing M s) ∷ [])
 
 -- what may be wrong where something is to be written, 8 last, with what is then too short
-abbrev pub orNoRoom : List (ℕ × Type 0) → Type 0 → List (ℕ × Type 0)
-orNoRoom wrong short = wrong ++ ((ROOM, short) ∷ [])
+abbrev pub or_no_room : List (ℕ × Type 0) → Type 0 → List (ℕ × Type 0)
+or_no_room wrong short = wrong ++ ((ROOM, short) ∷ [])
 
 -- the number and the sentence at place i
 abbrev pub placed : List (ℕ × Type 0) → ℕ → ℕ × Type 0

@@ -7,7 +7,7 @@ use Rattle.sets.specs.Bits.{size}
 use Rattle.definitions.specs.Search.{total}
 use Rattle.definitions.specs.Table.{Table}
 use Rattle.definitions.specs.Ring.{Ring}
-use Rattle.definitions.specs.AllRings.{allRings}
+use Rattle.definitions.specs.AllRings.{all_rings}
 
 -- the sum of the sets that a list of choices picks
 unfoldable pub chosen : List Bool → List ℕ → ℕ
@@ -31,8 +31,8 @@ taking taken [] = []
 taking taken (r ∷ rs) = elim (sum? taken r) [ true ↦ taking taken rs | false ↦ r ∷ taking (r ∷ taken) rs ]
 
 -- what is taken of all rings, in the order of taking
-unfoldable pub smallestBasis : Table → List ℕ
-smallestBasis M = taking [] (allRings M)
+unfoldable pub smallest_basis : Table → List ℕ
+smallest_basis M = taking [] (all_rings M)
 
 -- ---- what is promised of a smallest basis
 
@@ -43,8 +43,8 @@ NoneOfOthers vs = (before : List ℕ) (x : ℕ) (after : List ℕ) → before ++
 -- the list has rings only, no one of them is a sum of the rest, and each ring of the table is a sum of members of the list
 pub record RingBasis (M : Table) (bs : List ℕ) : Type 0 where
   pub rings : (s : ℕ) → In s bs → Ring M s
-  pub none-of-others : NoneOfOthers bs
-  pub span-all : (s : ℕ) → Ring M s → SumOf bs s
+  pub none_of_others : NoneOfOthers bs
+  pub span_all : (s : ℕ) → Ring M s → SumOf bs s
 
 -- and no list of which all this holds has a lower total of bonds
 pub record SmallestBasis (M : Table) (bs : List ℕ) : Type 0 where

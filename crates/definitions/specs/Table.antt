@@ -22,15 +22,15 @@ abbrev pub head : Table → ℕ → ℕ
 head M k = get_or M.bytes (2 * k + 1) 0
 
 -- the most atoms and the most bonds that are accepted
-abbrev pub maxAtoms : ℕ
-maxAtoms = 64
+abbrev pub max_atoms : ℕ
+max_atoms = 64
 
-abbrev pub maxBonds : ℕ
-maxBonds = 64
+abbrev pub max_bonds : ℕ
+max_bonds = 64
 
 -- the sizes that a set of bonds can have are those below this
-abbrev pub allSizes : ℕ
-allSizes = maxBonds + 1
+abbrev pub all_sizes : ℕ
+all_sizes = max_bonds + 1
 
 -- bond k meets atom a
 abbrev pub meets? : Table → ℕ → ℕ → Bool
@@ -47,24 +47,24 @@ abbrev pub odd? : Table → Bool
 odd? M = eqb (length M.bytes % 2) 1
 
 -- there is no atom, or there are too many
-abbrev pub badAtoms? : Table → Bool
-badAtoms? M = eqb M.atoms 0 || ltb maxAtoms M.atoms
+abbrev pub bad_atoms? : Table → Bool
+bad_atoms? M = eqb M.atoms 0 || ltb max_atoms M.atoms
 
 -- there are too many bonds
-abbrev pub badBonds? : Table → Bool
-badBonds? M = ltb maxBonds (bonds M)
+abbrev pub bad_bonds? : Table → Bool
+bad_bonds? M = ltb max_bonds (bonds M)
 
 -- an end of bond k is no atom of the table
-abbrev pub badEnd? : Table → ℕ → Bool
-badEnd? M k = leb M.atoms (tail M k) || leb M.atoms (head M k)
+abbrev pub bad_end? : Table → ℕ → Bool
+bad_end? M k = leb M.atoms (tail M k) || leb M.atoms (head M k)
 
 -- the two ends of bond k are one atom
-abbrev pub selfBond? : Table → ℕ → Bool
-selfBond? M k = eqb (tail M k) (head M k)
+abbrev pub self_bond? : Table → ℕ → Bool
+self_bond? M k = eqb (tail M k) (head M k)
 
 -- a bond before bond k has its two atoms
-unfoldable pub seenBefore? : Table → ℕ → Bool
-seenBefore? M k = some? k (alike? M k)
+unfoldable pub seen_before? : Table → ℕ → Bool
+seen_before? M k = some? k (alike? M k)
 
 -- the numbers of the refusals
 abbrev pub ODD : ℕ
@@ -95,14 +95,14 @@ abbrev pub NOTRING : ℕ
 NOTRING = 9
 
 -- each number with its test, the one that is tried first in front; a test of bonds looks at all of them
-abbrev pub tableTests : Table → List (ℕ × Bool)
-tableTests M =
+abbrev pub table_tests : Table → List (ℕ × Bool)
+table_tests M =
     (ODD, odd? M)
-    ∷ (ATOMS, badAtoms? M)
-    ∷ (BONDS, badBonds? M)
-    ∷ (END, some? (bonds M) (badEnd? M))
-    ∷ (SELF, some? (bonds M) (selfBond? M))
-    ∷ (TWICE, some? (bonds M) (seenBefore? M))
+    ∷ (ATOMS, bad_atoms? M)
+    ∷ (BONDS, bad_bonds? M)
+    ∷ (END, some? (bonds M) (bad_end? M))
+    ∷ (SELF, some? (bonds M) (self_bond? M))
+    ∷ (TWICE, some? (bonds M) (seen_before? M))
     ∷ []
 
 -- the number of the first test that passes, and 0 where none does
@@ -112,4 +112,4 @@ first_of (t ∷ ts) = cond t.1 t.0 (first_of ts)
 
 -- why a table is refused, and 0 where it is accepted
 unfoldable pub refusal : Table → ℕ
-refusal M = first_of (tableTests M)
+refusal M = first_of (table_tests M)

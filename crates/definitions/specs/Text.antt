@@ -6,13 +6,13 @@ abbrev pub glyph : ℕ → ℕ
 glyph d = elim (ltb d 10) [ true ↦ 48 + d | false ↦ 87 + d ]
 
 -- a number in decimal, in n digits at most
-unfoldable pub decimalIn : ℕ → ℕ → List ℕ
-decimalIn zero x = []
-decimalIn (suc n) x = elim (ltb x 10) [ true ↦ glyph x ∷ [] | false ↦ decimalIn n (x / 10) ++ (glyph (x % 10) ∷ []) ]
+unfoldable pub decimal_in : ℕ → ℕ → List ℕ
+decimal_in zero x = []
+decimal_in (suc n) x = elim (ltb x 10) [ true ↦ glyph x ∷ [] | false ↦ decimal_in n (x / 10) ++ (glyph (x % 10) ∷ []) ]
 
 -- a number in decimal: it has no more digits than its value and one
 unfoldable pub decimal : ℕ → List ℕ
-decimal x = decimalIn (x + 1) x
+decimal x = decimal_in (x + 1) x
 
 -- bytes in lower-case hex
 unfoldable pub hex : List ℕ → List ℕ

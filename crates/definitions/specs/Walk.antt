@@ -17,8 +17,8 @@ At M s a j = (j < bonds M) × (has s j ≡ true) × (meets? M a j ≡ true)
 -- these atoms and these bonds, in order, are a walk round the bond set s
 pub record Walk (M : Table) (s : ℕ) (visited crossed : List ℕ) : Type 0 where
   -- there are as many atoms and as many bonds as the set has bonds
-  pub as-many-atoms : length visited ≡ size s
-  pub as-many-bonds : length crossed ≡ size s
+  pub as_many-atoms : length visited ≡ size s
+  pub as_many-bonds : length crossed ≡ size s
   -- the first bond is the lowest of the set, and the walk starts at the lower of its two atoms
   pub first : (has s (get_or crossed 0 0) ≡ true) × ((k : ℕ) → has s k ≡ true → get_or crossed 0 0 ≤ k)
   pub start : get_or visited 0 0 ≡ min (tail M (get_or crossed 0 0)) (head M (get_or crossed 0 0))
@@ -33,37 +33,37 @@ pub record Walk (M : Table) (s : ℕ) (visited crossed : List ℕ) : Type 0 wher
 -- ---- the same as a function; a place of the walk is an atom and the bond by which it is left
 
 -- the first number below n that passes, and 0 where none does
-abbrev pub firstThat : ℕ → (ℕ → Bool) → ℕ
-firstThat n p = get_or (those n p) 0 0
+abbrev pub first_that : ℕ → (ℕ → Bool) → ℕ
+first_that n p = get_or (those n p) 0 0
 
 -- the atom of bond k that is not a
-abbrev pub otherAtom : Table → ℕ → ℕ → ℕ
-otherAtom M k a = cond (eqb (tail M k) a) (head M k) (tail M k)
+abbrev pub other_atom : Table → ℕ → ℕ → ℕ
+other_atom M k a = cond (eqb (tail M k) a) (head M k) (tail M k)
 
 -- a bond of the set s at atom a that is not k
-unfoldable pub otherBond : Table → ℕ → ℕ → ℕ → ℕ
-otherBond M s a k = firstThat (bonds M) (λ j. (has s j && meets? M a j) && not (eqb k j))
+unfoldable pub other_bond : Table → ℕ → ℕ → ℕ → ℕ
+other_bond M s a k = first_that (bonds M) (λ j. (has s j && meets? M a j) && not (eqb k j))
 
 -- one bond further
 unfoldable pub onward : Table → ℕ → ℕ × ℕ → ℕ × ℕ
-onward M s p = let b = otherAtom M p.1 p.0 in (b, otherBond M s b p.1)
+onward M s p = let b = other_atom M p.1 p.0 in (b, other_bond M s b p.1)
 
 -- n places, one after another
-unfoldable pub walkFrom : Table → ℕ → ℕ → ℕ × ℕ → List (ℕ × ℕ)
-walkFrom M s zero p = []
-walkFrom M s (suc n) p = p ∷ walkFrom M s n (onward M s p)
+unfoldable pub walk_from : Table → ℕ → ℕ → ℕ × ℕ → List (ℕ × ℕ)
+walk_from M s zero p = []
+walk_from M s (suc n) p = p ∷ walk_from M s n (onward M s p)
 
 -- the lower atom of the lowest bond, and that bond
-unfoldable pub walkStart : Table → ℕ → ℕ × ℕ
-walkStart M s = let k = firstThat (bonds M) (has s) in (min (tail M k) (head M k), k)
+unfoldable pub walk_start : Table → ℕ → ℕ × ℕ
+walk_start M s = let k = first_that (bonds M) (has s) in (min (tail M k) (head M k), k)
 
 -- as many places as the set has bonds
 unfoldable pub walk_of : Table → ℕ → List (ℕ × ℕ)
-walk_of M s = walkFrom M s (size s) (walkStart M s)
+walk_of M s = walk_from M s (size s) (walk_start M s)
 
 -- the atoms in order, and the bonds in order
-unfoldable pub walkAtoms : Table → ℕ → List ℕ
-walkAtoms M s = map (λ p. p.0) (walk_of M s)
+unfoldable pub walk_atoms : Table → ℕ → List ℕ
+walk_atoms M s = map (λ p. p.0) (walk_of M s)
 
-unfoldable pub walkBonds : Table → ℕ → List ℕ
-walkBonds M s = map (λ p. p.1) (walk_of M s)
+unfoldable pub walk_bonds : Table → ℕ → List ℕ
+walk_bonds M s = map (λ p. p.1) (walk_of M s)

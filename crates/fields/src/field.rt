@@ -1,6 +1,6 @@
 // Tagged fields: one byte tag, two bytes length, and the content.
 ghost use Rattle.std.specs.Prelude.{◌+◌, ◌≤◌, length, take, ◌∷◌};
-ghost use Rattle.definitions.specs.Label.{bytes_of, bytesOfAll, field};
+ghost use Rattle.definitions.specs.Label.{bytes_of, bytes_of_all, field};
 ghost use Rattle.lent.specs.Appended.{Room, Appended};
 
 use super::number::{put_numbers, put_tagged};
@@ -28,8 +28,8 @@ pub fn put_number_field(
     out: &mut [u8],
     at: usize,
 ) -> usize
-    requires { (width ≤ 8) × (n ≤ length numbers.now) × Room (field tag (bytesOfAll width (take n numbers.now))) out.old at }
-    ensures { Appended out.old at (field tag (bytesOfAll width (take n numbers.now))) out.new result }
+    requires { (width ≤ 8) × (n ≤ length numbers.now) × Room (field tag (bytes_of_all width (take n numbers.now))) out.old at }
+    ensures { Appended out.old at (field tag (bytes_of_all width (take n numbers.now))) out.new result }
 {
     let next = put_head(tag, n * width, out, at);
     put_numbers(width, numbers, n, out, next)

@@ -1,6 +1,6 @@
 // Numbers as bytes.
 ghost use Rattle.std.specs.Prelude.{◌≡◌, ◌∷◌, ◌+◌, ◌/◌, ◌%◌, ◌^◌, ◌≤◌, ◌<◌, length, take};
-ghost use Rattle.definitions.specs.Label.{bytes_of, bytesOfAll};
+ghost use Rattle.definitions.specs.Label.{bytes_of, bytes_of_all};
 ghost use Rattle.lent.specs.Appended.{Room, Appended};
 
 // The bits of a byte.
@@ -48,8 +48,8 @@ pub(crate) fn put_numbers(
     out: &mut [u8],
     at: usize,
 ) -> usize
-    requires { (width ≤ 8) × (n ≤ length numbers.now) × Room (bytesOfAll width (take n numbers.now)) out.old at }
-    ensures { Appended out.old at (bytesOfAll width (take n numbers.now)) out.new result }
+    requires { (width ≤ 8) × (n ≤ length numbers.now) × Room (bytes_of_all width (take n numbers.now)) out.old at }
+    ensures { Appended out.old at (bytes_of_all width (take n numbers.now)) out.new result }
 {
     let mut next: usize = at;
     let mut i: usize = 0;

@@ -6,9 +6,9 @@ use Rattle.std.specs.Prelude.{◌≡◌, ◌≢◌, ◌⊎◌, List, ℕ, length
 use Rattle.sets.specs.Bits.{size}
 use Rattle.sets.specs.Lists.{in_words}
 use Rattle.definitions.specs.Table.{Table}
-use Rattle.definitions.specs.Walk.{walkAtoms, walkBonds}
-use Rattle.definitions.specs.Sentences.{TooShort, wrongsOfWalk, orNoRoom, Told}
-use Rattle.foliocrane.specs.Call.{Call, tableIn}
+use Rattle.definitions.specs.Walk.{walk_atoms, walk_bonds}
+use Rattle.definitions.specs.Sentences.{TooShort, wrongs_of_walk, or_no_room, Told}
+use Rattle.foliocrane.specs.Call.{Call, table_in}
 
 -- a call is answered, where these sentences say what may be wrong, n things are wanted, and they are these items of a list
 pub record Answered (wrong : List (ℕ × Type 0)) (n : ℕ) (wanted : List ℕ) (c : Call) : Type 0 where
@@ -24,20 +24,20 @@ pub record Answered (wrong : List (ℕ × Type 0)) (n : ℕ) (wanted : List ℕ)
 
 -- these bytes of the table are wanted, and the bytes are counted
 abbrev pub AnsweredBytes : (Table → List (ℕ × Type 0)) → (Table → List ℕ) → Call → Type 0
-AnsweredBytes wrong bytes c = let M = tableIn c in Answered (orNoRoom (wrong M) (TooShort (bytes M) c.lent)) (length (bytes M)) (bytes M) c
+AnsweredBytes wrong bytes c = let M = table_in c in Answered (or_no_room (wrong M) (TooShort (bytes M) c.lent)) (length (bytes M)) (bytes M) c
 
 -- these sets of the table are wanted, as words, and the sets are counted
 abbrev pub AnsweredSets : (Table → List (ℕ × Type 0)) → (Table → List ℕ) → Call → Type 0
 AnsweredSets wrong sets c =
-    let M = tableIn c in Answered (orNoRoom (wrong M) (TooShort (in_words (sets M)) c.lent)) (length (sets M)) (in_words (sets M)) c
+    let M = table_in c in Answered (or_no_room (wrong M) (TooShort (in_words (sets M)) c.lent)) (length (sets M)) (in_words (sets M)) c
 
 -- the atoms and the bonds of a ring are wanted, each in its list; they are refused together where either list is too short, and what is
 -- counted is the size of the ring
 abbrev pub AnsweredWalk : ℕ → Call → Call → Type 0
 AnsweredWalk s c d =
-    let M = tableIn c in
-    let wrong = orNoRoom (wrongsOfWalk M s) (TooShort (walkAtoms M s) c.lent ⊎ TooShort (walkBonds M s) d.lent) in
-    Answered wrong (size s) (walkAtoms M s) c × Answered wrong (size s) (walkBonds M s) d
+    let M = table_in c in
+    let wrong = or_no_room (wrongs_of_walk M s) (TooShort (walk_atoms M s) c.lent ⊎ TooShort (walk_bonds M s) d.lent) in
+    Answered wrong (size s) (walk_atoms M s) c × Answered wrong (size s) (walk_bonds M s) d
 
 -- nothing is assumed of the caller: what a function asks for holds of all arguments
 abbrev pub AsksNothing : {K A : Type 0} → (K → A → Type 0) → Type 0

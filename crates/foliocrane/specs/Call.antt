@@ -3,9 +3,9 @@
 use Rattle.std.specs.Prelude.{List, [], ℕ, take}
 use base.Fml.{Lft}
 use Rattle.std.specs.Borrow.{Bor}
-use Rattle.sets.specs.Lists.{setsIn, words_of}
+use Rattle.sets.specs.Lists.{sets_in, words_of}
 use Rattle.definitions.specs.Table.{Table, table}
-use Rattle.definitions.specs.Answer.{Outcome, outcomeOf}
+use Rattle.definitions.specs.Answer.{Outcome, outcome_of}
 use Rattle.answers.specs.declared.answer.Answer.{Answer}
 
 pub record Call : Type 0 where
@@ -21,19 +21,19 @@ pub record Call : Type 0 where
   pub left : List ℕ
 
 -- the table that a call asks about
-abbrev pub tableIn : Call → Table
-tableIn c = table c.atoms c.bonds
+abbrev pub table_in : Call → Table
+table_in c = table c.atoms c.bonds
 
 -- its answer: number, count and what is left in the lent list
 abbrev pub answer_of : Call → Outcome (List ℕ)
-answer_of c = outcomeOf c.number c.count c.left
+answer_of c = outcome_of c.number c.count c.left
 
 -- what it has given: as many bytes, or as many sets, as are counted, from the start of the lent list
-abbrev pub bytesGiven : Call → List ℕ
-bytesGiven c = take c.count c.left
+abbrev pub bytes_given : Call → List ℕ
+bytes_given c = take c.count c.left
 
-abbrev pub setsGiven : Call → List ℕ
-setsGiven c = setsIn (take (words_of c.count) c.left)
+abbrev pub sets_given : Call → List ℕ
+sets_given c = sets_in (take (words_of c.count) c.left)
 
 -- a call by what is given, the answer, and what the two lists hold then
 abbrev pub call_of : ℕ → List ℕ → List ℕ → Answer → List ℕ → List ℕ → Call
@@ -81,7 +81,7 @@ pub data Called (post : Writing) : Call → Type 0 where
 
 -- one call with a set and two lists, seen as a call for the first list and as a call for the second
 pub data CalledBoth (post : Walking) (s : ℕ) : Call → Call → Type 0 where
-  called-both : {κs : Lft × (Lft × (Lft × Unit {0}))} {atoms atoms' s' : ℕ} {bonds bonds' visited visited' crossed crossed' : Bor (List ℕ)} {r : Answer}
+  called_both : {κs : Lft × (Lft × (Lft × Unit {0}))} {atoms atoms' s' : ℕ} {bonds bonds' visited visited' crossed crossed' : Bor (List ℕ)} {r : Answer}
       → post κs (atoms, (bonds, (s, (visited, (crossed, tt))))) r (atoms', (bonds', (s', (visited', (crossed', tt)))))
       → CalledBoth post s (call_of atoms bonds.now visited.now r bonds'.now visited'.now)
       (call_of atoms bonds.now crossed.now r bonds'.now crossed'.now)

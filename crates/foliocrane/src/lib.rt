@@ -5,14 +5,14 @@
 ghost use Rattle.std.specs.Prelude.{◌≡◌, [], length};
 ghost use Rattle.lookup.specs.Lookup as lookups;
 ghost use Rattle.definitions.specs.Table.{table as table_of, refusal};
-ghost use Rattle.definitions.specs.Basis.{basisRings};
+ghost use Rattle.definitions.specs.Basis.{basis_rings};
 ghost use Rattle.definitions.specs.Assembly.{assemblies};
-ghost use Rattle.definitions.specs.AllRings.{allRings};
-ghost use Rattle.definitions.specs.Smallest.{smallestBasis};
-ghost use Rattle.definitions.specs.Reduced.{reducedBasis};
-ghost use Rattle.definitions.specs.Walk.{walkAtoms, walkBonds};
-ghost use Rattle.definitions.specs.Label.{label_of, sidecarOf};
-ghost use Rattle.definitions.specs.Answer.{outcomeOf, counted, written, writtenSets, writtenBoth, refusalOfRings, refusalOfWalk};
+ghost use Rattle.definitions.specs.AllRings.{all_rings};
+ghost use Rattle.definitions.specs.Smallest.{smallest_basis};
+ghost use Rattle.definitions.specs.Reduced.{reduced_basis};
+ghost use Rattle.definitions.specs.Walk.{walk_atoms, walk_bonds};
+ghost use Rattle.definitions.specs.Label.{label_of, sidecar_of};
+ghost use Rattle.definitions.specs.Answer.{outcome_of, counted, written, written_sets, written_both, refusal_of_rings, refusal_of_walk};
 
 use answers::Answer;
 use sets::BondSet;
@@ -20,7 +20,7 @@ use sets::BondSet;
 // The table check: 0 and the number of basis rings, or a refusal.
 #[unsafe(no_mangle)]
 pub extern "C" fn foliocrane_check(atoms: u64, bonds: &[u8]) -> Answer
-    ensures answer { outcomeOf result.number result.count [] ≡ counted (refusal (table_of atoms bonds.now)) (length (basisRings (table_of atoms bonds.now))) }
+    ensures answer { outcome_of result.number result.count [] ≡ counted (refusal (table_of atoms bonds.now)) (length (basis_rings (table_of atoms bonds.now))) }
     ensures read { bonds.now ≡ bonds.now }
 {
     basis::check(atoms, bonds)
@@ -29,7 +29,7 @@ pub extern "C" fn foliocrane_check(atoms: u64, bonds: &[u8]) -> Answer
 // The basis rings, in order of their closure bonds, as words.
 #[unsafe(no_mangle)]
 pub extern "C" fn foliocrane_basis_rings(atoms: u64, bonds: &[u8], out: &mut [u64]) -> Answer
-    ensures answer { outcomeOf result.number result.count out.new ≡ writtenSets (refusal (table_of atoms bonds.now)) (basisRings (table_of atoms bonds.now)) out.old }
+    ensures answer { outcome_of result.number result.count out.new ≡ written_sets (refusal (table_of atoms bonds.now)) (basis_rings (table_of atoms bonds.now)) out.old }
     ensures read { bonds.now ≡ bonds.now }
 {
     basis::basis_rings(atoms, bonds, out)
@@ -38,7 +38,7 @@ pub extern "C" fn foliocrane_basis_rings(atoms: u64, bonds: &[u8], out: &mut [u6
 // The assembly of each basis ring, one byte a ring.
 #[unsafe(no_mangle)]
 pub extern "C" fn foliocrane_assemblies(atoms: u64, bonds: &[u8], out: &mut [u8]) -> Answer
-    ensures answer { outcomeOf result.number result.count out.new ≡ written (refusal (table_of atoms bonds.now)) (assemblies (table_of atoms bonds.now)) out.old }
+    ensures answer { outcome_of result.number result.count out.new ≡ written (refusal (table_of atoms bonds.now)) (assemblies (table_of atoms bonds.now)) out.old }
     ensures read { bonds.now ≡ bonds.now }
 {
     basis::assemblies(atoms, bonds, out)
@@ -47,7 +47,7 @@ pub extern "C" fn foliocrane_assemblies(atoms: u64, bonds: &[u8], out: &mut [u8]
 // All rings, as words: the smaller ring first, and of two with one size the lower word.
 #[unsafe(no_mangle)]
 pub extern "C" fn foliocrane_all_rings(atoms: u64, bonds: &[u8], out: &mut [u64]) -> Answer
-    ensures answer { outcomeOf result.number result.count out.new ≡ writtenSets (refusalOfRings (table_of atoms bonds.now)) (allRings (table_of atoms bonds.now)) out.old }
+    ensures answer { outcome_of result.number result.count out.new ≡ written_sets (refusal_of_rings (table_of atoms bonds.now)) (all_rings (table_of atoms bonds.now)) out.old }
     ensures read { bonds.now ≡ bonds.now }
 {
     lists::all_rings(atoms, bonds, out)
@@ -56,7 +56,7 @@ pub extern "C" fn foliocrane_all_rings(atoms: u64, bonds: &[u8], out: &mut [u64]
 // The smallest basis, as taken from the list of all rings, as words.
 #[unsafe(no_mangle)]
 pub extern "C" fn foliocrane_smallest_basis(atoms: u64, bonds: &[u8], out: &mut [u64]) -> Answer
-    ensures answer { outcomeOf result.number result.count out.new ≡ writtenSets (refusalOfRings (table_of atoms bonds.now)) (smallestBasis (table_of atoms bonds.now)) out.old }
+    ensures answer { outcome_of result.number result.count out.new ≡ written_sets (refusal_of_rings (table_of atoms bonds.now)) (smallest_basis (table_of atoms bonds.now)) out.old }
     ensures read { bonds.now ≡ bonds.now }
 {
     lists::smallest_basis(atoms, bonds, out)
@@ -65,7 +65,7 @@ pub extern "C" fn foliocrane_smallest_basis(atoms: u64, bonds: &[u8], out: &mut 
 // The reduced basis of 000, as words. It depends on the numbering, and never enters a label.
 #[unsafe(no_mangle)]
 pub extern "C" fn foliocrane_reduced_basis(atoms: u64, bonds: &[u8], out: &mut [u64]) -> Answer
-    ensures answer { outcomeOf result.number result.count out.new ≡ writtenSets (refusal (table_of atoms bonds.now)) (reducedBasis (table_of atoms bonds.now)) out.old }
+    ensures answer { outcome_of result.number result.count out.new ≡ written_sets (refusal (table_of atoms bonds.now)) (reduced_basis (table_of atoms bonds.now)) out.old }
     ensures read { bonds.now ≡ bonds.now }
 {
     reduced::reduced_basis(atoms, bonds, out)
@@ -81,7 +81,7 @@ pub extern "C" fn foliocrane_ring_walk(
     ring_atoms: &mut [u8],
     ring_bonds: &mut [u8],
 ) -> Answer
-    ensures answer { outcomeOf result.number result.count (ring_atoms.new, ring_bonds.new) ≡ writtenBoth (refusalOfWalk (table_of atoms bonds.now) set) (walkAtoms (table_of atoms bonds.now) set, walkBonds (table_of atoms bonds.now) set) (ring_atoms.old, ring_bonds.old) }
+    ensures answer { outcome_of result.number result.count (ring_atoms.new, ring_bonds.new) ≡ written_both (refusal_of_walk (table_of atoms bonds.now) set) (walk_atoms (table_of atoms bonds.now) set, walk_bonds (table_of atoms bonds.now) set) (ring_atoms.old, ring_bonds.old) }
     ensures read { bonds.now ≡ bonds.now }
 {
     let ring = BondSet::of_words([set]);
@@ -91,7 +91,7 @@ pub extern "C" fn foliocrane_ring_walk(
 // The label.
 #[unsafe(no_mangle)]
 pub extern "C" fn foliocrane_label(atoms: u64, bonds: &[u8], out: &mut [u8]) -> Answer
-    ensures answer { outcomeOf result.number result.count out.new ≡ written (refusalOfRings (table_of atoms bonds.now)) (label_of (table_of atoms bonds.now)) out.old }
+    ensures answer { outcome_of result.number result.count out.new ≡ written (refusal_of_rings (table_of atoms bonds.now)) (label_of (table_of atoms bonds.now)) out.old }
     ensures read { bonds.now ≡ bonds.now }
 {
     label::label(atoms, bonds, out)
@@ -100,7 +100,7 @@ pub extern "C" fn foliocrane_label(atoms: u64, bonds: &[u8], out: &mut [u8]) -> 
 // The sidecar: the reduced basis in a field of its own.
 #[unsafe(no_mangle)]
 pub extern "C" fn foliocrane_sidecar(atoms: u64, bonds: &[u8], out: &mut [u8]) -> Answer
-    ensures answer { outcomeOf result.number result.count out.new ≡ written (refusal (table_of atoms bonds.now)) (sidecarOf (table_of atoms bonds.now)) out.old }
+    ensures answer { outcome_of result.number result.count out.new ≡ written (refusal (table_of atoms bonds.now)) (sidecar_of (table_of atoms bonds.now)) out.old }
     ensures read { bonds.now ≡ bonds.now }
 {
     sidecar::sidecar(atoms, bonds, out)
@@ -108,7 +108,7 @@ pub extern "C" fn foliocrane_sidecar(atoms: u64, bonds: &[u8], out: &mut [u8]) -
 
 // The part of the first list, or else of the second, whose sets have a size. It hands back a part of a lent list, so it is for Rattle alone.
 pub fn of_size<'a>(first: &'a [u64], second: &'a [u64], size: u64) -> &'a [u64]
-    ensures part { lookups.lent result ≡ lookups.ofSize size (lookups.lent first.entry) (lookups.lent second.entry) }
+    ensures part { lookups.lent result ≡ lookups.of_size size (lookups.lent first.entry) (lookups.lent second.entry) }
     ensures read { (first.now ≡ first.now) × (second.now ≡ second.now) }
 {
     lookup::of_size(first, second, size)

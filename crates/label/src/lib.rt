@@ -2,7 +2,7 @@
 ghost use Rattle.std.specs.Prelude.{◌≡◌};
 ghost use Rattle.definitions.specs.Table.{table};
 ghost use Rattle.definitions.specs.Label as spec;
-ghost use Rattle.definitions.specs.Answer.{outcomeOf, written, refusalOfRings};
+ghost use Rattle.definitions.specs.Answer.{outcome_of, written, refusal_of_rings};
 
 use answers::{Answer, MAX_BONDS, SIZES};
 use labels::{Numbers, write_label};
@@ -10,7 +10,7 @@ use rings::count_rings;
 
 // The label: four fields, from the number of basis rings, which is the Frerejacque number, the rings, the smallest basis and the assemblies.
 pub fn label(atoms: u64, bonds: &[u8], out: &mut [u8]) -> Answer
-    ensures answer { outcomeOf result.number result.count out.new ≡ written (refusalOfRings (table atoms bonds.now)) (spec.label_of (table atoms bonds.now)) out.old }
+    ensures answer { outcome_of result.number result.count out.new ≡ written (refusal_of_rings (table atoms bonds.now)) (spec.label_of (table atoms bonds.now)) out.old }
     ensures read { bonds.now ≡ bonds.now }
 {
     let mut all = [0usize; SIZES];

@@ -2,11 +2,11 @@
 use Rattle.std.specs.Prelude.{◌≡◌, true, false, List, [], ◌∷◌, ℕ, ◌≤◌, get_or, eqb}
 use Rattle.definitions.specs.Search.{gather}
 use Rattle.definitions.specs.Label.{bytes_of}
-use Rattle.definitions.specs.Table.{allSizes}
+use Rattle.definitions.specs.Table.{all_sizes}
 
 -- no set has a size of top or above
 pub record NoneFrom (top : ℕ) (counts : List ℕ) : Type 0 where
-  pub within : top ≤ allSizes
+  pub within : top ≤ all_sizes
   pub none : (z : ℕ) → top ≤ z → get_or counts z 0 ≡ 0
 
 -- one size, one byte, and in n bytes how many sets have it; nothing where none has
@@ -15,4 +15,4 @@ line n z k = elim (eqb k 0) [ true ↦ [] | false ↦ z ∷ bytes_of n k ]
 
 -- the lines of each size, rising
 unfoldable pub lines : ℕ → List ℕ → List ℕ
-lines n counts = gather allSizes (λ z. line n z (get_or counts z 0))
+lines n counts = gather all_sizes (λ z. line n z (get_or counts z 0))

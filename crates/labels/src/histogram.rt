@@ -1,7 +1,7 @@
 // The histogram of how many sets have each size: for each size that some set has, one byte size and the count. Only the sizes below top are
 // gone through, since no set has another.
 ghost use Rattle.std.specs.Prelude.{◌≡◌, ℕ, ◌+◌, ◌*◌, ◌≤◌, ◌<◌, length};
-ghost use Rattle.definitions.specs.Table.{allSizes};
+ghost use Rattle.definitions.specs.Table.{all_sizes};
 ghost use Rattle.definitions.specs.Label.{field};
 ghost use Rattle.lent.specs.Appended.{Room, Appended};
 ghost use Rattle.labels.specs.Sizes as spec;
@@ -20,7 +20,7 @@ fn line_bytes(width: usize, count: usize) -> usize
 // How many bytes the histogram takes.
 pub(crate) fn histogram_bytes(width: usize, counts: &[usize; SIZES], top: usize) -> usize
     requires { (width ≤ 8) × spec.NoneFrom top counts.now }
-    ensures { (result ≡ length (spec.lines width counts.now)) × (result ≤ 9 * allSizes) }
+    ensures { (result ≡ length (spec.lines width counts.now)) × (result ≤ 9 * all_sizes) }
 {
     let mut bytes: usize = 0;
     let mut size: usize = 0;
@@ -33,7 +33,7 @@ pub(crate) fn histogram_bytes(width: usize, counts: &[usize; SIZES], top: usize)
 
 // The line of a size: nothing where no set has it.
 fn put_line(width: usize, size: usize, count: usize, out: &mut [u8], at: usize) -> usize
-    requires { (width ≤ 8) × (size < allSizes) × Room (spec.line width size count) out.old at }
+    requires { (width ≤ 8) × (size < all_sizes) × Room (spec.line width size count) out.old at }
     ensures { Appended out.old at (spec.line width size count) out.new result }
 {
     if count == 0 {

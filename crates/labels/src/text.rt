@@ -1,8 +1,8 @@
 // The bytes of a label, over the start of a lent list where there is room for them.
 ghost use Rattle.std.specs.Prelude.{◌≡◌, ◌≤◌, length, take};
-ghost use Rattle.definitions.specs.Answer.{outcomeOf, over, written};
+ghost use Rattle.definitions.specs.Answer.{outcome_of, over, written};
 ghost use Rattle.labels.specs.Sizes.{NoneFrom};
-ghost use Rattle.labels.specs.Text.{labelBytes};
+ghost use Rattle.labels.specs.Text.{label_bytes};
 
 use super::histogram::{histogram_bytes, put_size_field};
 use answers::{Answer, ROOM, SIZES};
@@ -45,8 +45,8 @@ fn put_fields(
     pairs: &[u64],
     out: &mut [u8],
 )
-    requires { NoneFrom numbers.top rings.now × NoneFrom numbers.top smallest.now × (numbers.pairs ≤ length pairs.now) × (length (labelBytes numbers.frerejacque rings.now smallest.now (take numbers.pairs pairs.now)) ≤ length out.old) }
-    ensures { out.new ≡ over (labelBytes numbers.frerejacque rings.now smallest.now (take numbers.pairs pairs.now)) out.old }
+    requires { NoneFrom numbers.top rings.now × NoneFrom numbers.top smallest.now × (numbers.pairs ≤ length pairs.now) × (length (label_bytes numbers.frerejacque rings.now smallest.now (take numbers.pairs pairs.now)) ≤ length out.old) }
+    ensures { out.new ≡ over (label_bytes numbers.frerejacque rings.now smallest.now (take numbers.pairs pairs.now)) out.old }
 {
     let first = [numbers.frerejacque];
     let after_first = put_number_field(FREREJACQUE, 1, &first, 1, out, 0);
@@ -65,7 +65,7 @@ pub fn write_label(
     out: &mut [u8],
 ) -> Answer
     requires { NoneFrom numbers.top rings.now × NoneFrom numbers.top smallest.now × (numbers.pairs ≤ length pairs.now) }
-    ensures { outcomeOf result.number result.count out.new ≡ written 0 (labelBytes numbers.frerejacque rings.now smallest.now (take numbers.pairs pairs.now)) out.old }
+    ensures { outcome_of result.number result.count out.new ≡ written 0 (label_bytes numbers.frerejacque rings.now smallest.now (take numbers.pairs pairs.now)) out.old }
 {
     let rings_bytes = histogram_bytes(COUNT, rings, numbers.top);
     let smallest_bytes = histogram_bytes(SMALL_COUNT, smallest, numbers.top);

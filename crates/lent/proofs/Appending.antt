@@ -14,7 +14,7 @@ use lib.ListN.{length, get_or, take, drop, set, length-append, length-drop, take
 use lib.Seq.{set_split, take_at, drop_at, take-append-le, take-take, drop-drop, length-take-le, take_all, paste, paste-zero, paste-suc, length-paste}
 use Rattle.definitions.specs.Search.{gather}
 use Rattle.definitions.specs.Answer.{over}
-use Rattle.definitions.proofs.Lists.{gather-step, gather-zero, gather-mono}
+use Rattle.definitions.proofs.Lists.{gather_step, gather-zero, gather_mono}
 use Rattle.lent.specs.Appended.{Appended}
 
 -- ---- items over the start of a list
@@ -27,17 +27,17 @@ over-length items l h = simp (length-append, length-drop) (omega arith)
 -- ---- one text after another
 
 -- nothing appended leaves the list as it is
-pub appended-none : (l : List ℕ) (at : ℕ) → Appended l at [] l at
-appended-none l at = record { end = omega arith; list = sym (take-append-drop at l) }
+pub appended_none : (l : List ℕ) (at : ℕ) → Appended l at [] l at
+appended_none l at = record { end = omega arith; list = sym (take-append-drop at l) }
 
 -- a store appends one byte
-pub appended-byte : (l : List ℕ) (at x : ℕ) → at < length l → Appended l at (x ∷ []) (set l at x) (at + 1)
-appended-byte l at x h = record { end = refl; list = rw add-one (set_split l at x h) }
+pub appended_byte : (l : List ℕ) (at x : ℕ) → at < length l → Appended l at (x ∷ []) (set l at x) (at + 1)
+appended_byte l at x h = record { end = refl; list = rw add-one (set_split l at x h) }
 
 module _ {l m : List ℕ} {i j : ℕ} {s : List ℕ} where
   -- the same text said otherwise
-  pub appended-as : {t : List ℕ} → s ≡ t → Appended l i s m j → Appended l i t m j
-  appended-as e a = rw (← e) a
+  pub appended_as : {t : List ℕ} → s ≡ t → Appended l i s m j → Appended l i t m j
+  appended_as e a = rw (← e) a
 
   module _ (within : i ≤ length l) (a : Appended l i s m j) where
     -- the text ends where the next begins
@@ -49,8 +49,8 @@ module _ {l m : List ℕ} {i j : ℕ} {s : List ℕ} where
     parted = a.list ∙ sym (append_assoc (take i l) s (drop j l))
 
     -- a text appended after a text is their text together
-    pub appended-more : {r t : List ℕ} {k : ℕ} → Appended m j t r k → Appended l i (s ++ t) r k
-    appended-more {r} {t} {k} b = record {
+    pub appended_more : {r t : List ℕ} {k : ℕ} → Appended m j t r k → Appended l i (s ++ t) r k
+    appended_more {r} {t} {k} b = record {
       end = b.end ∙ omega (arith, a.end, length-append s t);
       list =
           b.list
@@ -67,20 +67,20 @@ module _ {l m : List ℕ} {i j : ℕ} {s : List ℕ} where
         rest = later m ∙ ap (drop (length t)) (ap (drop j) parted ∙ drop_at (take i l ++ s) (drop j l) j start) ∙ sym (later l)
 
     -- the list keeps its length
-    pub appended-length : j ≤ length l → length m ≡ length l
-    appended-length h = ap length parted ∙ length-append (take i l ++ s) (drop j l) ∙ omega (arith, start, length-drop j l)
+    pub appended_length : j ≤ length l → length m ≡ length l
+    appended_length h = ap length parted ∙ length-append (take i l ++ s) (drop j l) ∙ omega (arith, start, length-drop j l)
 
 -- three texts one after another
-pub appended-three : {l m n o s t u : List ℕ} {i j k q : ℕ} → i ≤ length l → Appended l i s m j → Appended m j t n k → Appended n k u o q → Appended l i (s ++ (t ++ u)) o q
-appended-three {s = s} {t} {u} h a b c = appended-as (append_assoc s t u) (appended-more h (appended-more h a b) c)
+pub appended_three : {l m n o s t u : List ℕ} {i j k q : ℕ} → i ≤ length l → Appended l i s m j → Appended m j t n k → Appended n k u o q → Appended l i (s ++ (t ++ u)) o q
+appended_three {s = s} {t} {u} h a b c = appended_as (append_assoc s t u) (appended_more h (appended_more h a b) c)
 
 -- four texts one after another
-pub appended-four : {l m n o p s t u v : List ℕ} {i j k q r : ℕ} → i ≤ length l → Appended l i s m j → Appended m j t n k → Appended n k u o q → Appended o q v p r → Appended l i (s ++ (t ++ (u ++ v))) p r
-appended-four {s = s} {t} {u} {v} h a b c d = appended-as (simp append_assoc) (appended-more h (appended-more h (appended-more h a b) c) d)
+pub appended_four : {l m n o p s t u v : List ℕ} {i j k q r : ℕ} → i ≤ length l → Appended l i s m j → Appended m j t n k → Appended n k u o q → Appended o q v p r → Appended l i (s ++ (t ++ (u ++ v))) p r
+appended_four {s = s} {t} {u} {v} h a b c d = appended_as (simp append_assoc) (appended_more h (appended_more h (appended_more h a b) c) d)
 
 -- a text written before a text that stands already is their text together
-pub appended-before : {l m r s t : List ℕ} {i j k next : ℕ} → j ≡ i + length s → j ≤ length l → Appended l j t m k → Appended m i s r next → Appended l i (s ++ t) r k
-appended-before {l} {m} {r} {s} {t} {i} {j} {k} {next} e h a b = record {
+pub appended_before : {l m r s t : List ℕ} {i j k next : ℕ} → j ≡ i + length s → j ≤ length l → Appended l j t m k → Appended m i s r next → Appended l i (s ++ t) r k
+appended_before {l} {m} {r} {s} {t} {i} {j} {k} {next} e h a b = record {
   end = omega (arith, a.end, length-append s t);
   list =
       b.list
@@ -100,9 +100,9 @@ appended-before {l} {m} {r} {s} {t} {i} {j} {k} {next} e h a b = record {
         ∙ drop_at (take j l) (t ++ drop k l) j (length-take-le j l h)
 
 -- what is appended from the start stands over the list
-pub appended-over : {l m s : List ℕ} {n : ℕ} → Appended l 0 s m n → m ≡ over s l
+pub appended_over : {l m s : List ℕ} {n : ℕ} → Appended l 0 s m n → m ≡ over s l
 unfolding over
-appended-over {l} {m} {s} {n} a = let e : n ≡ length s = omega (arith, a.end) in a.list ∙ ap (λ (k : ℕ). s ++ drop k l) e
+appended_over {l} {m} {s} {n} a = let e : n ≡ length s = omega (arith, a.end) in a.list ∙ ap (λ (k : ℕ). s ++ drop k l) e
 
 -- ---- a text byte by byte
 
@@ -112,25 +112,25 @@ pub record Spelt (text lent out : List ℕ) (at i : ℕ) : Type 0 where
   pub list : out ≡ paste lent at text i
 
 -- before the first byte the list is as lent
-pub spelt-none : (text lent : List ℕ) (at : ℕ) → at + length text ≤ length lent → Spelt text lent lent at 0
-spelt-none text lent at h = record { within = omega arith; room = h; list = paste-zero lent at text }
+pub spelt_none : (text lent : List ℕ) (at : ℕ) → at + length text ≤ length lent → Spelt text lent lent at 0
+spelt_none text lent at h = record { within = omega arith; room = h; list = paste-zero lent at text }
 
 module _ {text lent out : List ℕ} {at i : ℕ} (s : Spelt text lent out at i) where
   -- the list keeps its length
-  pub spelt-length : length out ≡ length lent
-  spelt-length = ap length s.list ∙ length-paste lent at text i (omega (arith, s.within, s.room)) s.within
+  pub spelt_length : length out ≡ length lent
+  spelt_length = ap length s.list ∙ length-paste lent at text i (omega (arith, s.within, s.room)) s.within
 
   -- the next byte is stored at its place
-  pub spelt-more : {x : ℕ} → i < length text → x ≡ get_or text i 0 → Spelt text lent (set out (at + i) x) at (i + 1)
-  spelt-more {x} h e = record {
+  pub spelt_more : {x : ℕ} → i < length text → x ≡ get_or text i 0 → Spelt text lent (set out (at + i) x) at (i + 1)
+  spelt_more {x} h e = record {
     within = omega arith;
     room = s.room;
     list = rw (s.list, e, add-one) (paste-suc lent at text i 0 (omega (arith, s.room)) h);
   }
 
   -- after the last byte the text is appended
-  pub spelt-all : {n : ℕ} → n ≡ length text → n ≤ i → Appended lent at text out (at + n)
-  spelt-all {n} e h =
+  pub spelt_all : {n : ℕ} → n ≡ length text → n ≤ i → Appended lent at text out (at + n)
+  spelt_all {n} e h =
       let q : i ≡ n = omega (arith, s.within) in
       record {
         end = ap (λ (k : ℕ). at + k) e;
@@ -145,30 +145,30 @@ pub record Strung (f : ℕ → List ℕ) (N : ℕ) (lent out : List ℕ) (at nex
   pub text : Appended lent at (gather k f) out next
 
 -- before the first text the list is as lent
-pub strung-none : (f : ℕ → List ℕ) (N : ℕ) (lent : List ℕ) (at : ℕ) → at + length (gather N f) ≤ length lent → Strung f N lent lent at at 0
-strung-none f N lent at h = record { within = omega arith; room = h; text = appended-as (sym (gather-zero f)) (appended-none lent at) }
+pub strung_none : (f : ℕ → List ℕ) (N : ℕ) (lent : List ℕ) (at : ℕ) → at + length (gather N f) ≤ length lent → Strung f N lent lent at at 0
+strung_none f N lent at h = record { within = omega arith; room = h; text = appended_as (sym (gather-zero f)) (appended_none lent at) }
 
 module _ {f : ℕ → List ℕ} {N : ℕ} {lent out : List ℕ} {at next k : ℕ} (s : Strung f N lent out at next k) where
   -- the list keeps its length
-  pub strung-length : length out ≡ length lent
-  strung-length = appended-length (omega (arith, s.room)) s.text (omega (arith, s.room, s.text.end, gather-mono f k N s.within))
+  pub strung_length : length out ≡ length lent
+  strung_length = appended_length (omega (arith, s.room)) s.text (omega (arith, s.room, s.text.end, gather_mono f k N s.within))
 
   -- there is room for the next text
-  pub strung-room : k < N → next + length (f k) ≤ length out
-  strung-room h =
-      omega (arith, s.room, strung-length, s.text.end, gather-mono f (k + 1) N (omega arith), ap length (gather-step k f), length-append (gather k f) (f k))
+  pub strung_room : k < N → next + length (f k) ≤ length out
+  strung_room h =
+      omega (arith, s.room, strung_length, s.text.end, gather_mono f (k + 1) N (omega arith), ap length (gather_step k f), length-append (gather k f) (f k))
 
   -- the next text is appended
-  pub strung-more : {out' : List ℕ} {next' : ℕ} → k < N → Appended out next (f k) out' next' → Strung f N lent out' at next' (k + 1)
-  strung-more h a = record {
+  pub strung_more : {out' : List ℕ} {next' : ℕ} → k < N → Appended out next (f k) out' next' → Strung f N lent out' at next' (k + 1)
+  strung_more h a = record {
     within = omega arith;
     room = s.room;
-    text = appended-as (sym (gather-step k f)) (appended-more (omega (arith, s.room)) s.text a);
+    text = appended_as (sym (gather_step k f)) (appended_more (omega (arith, s.room)) s.text a);
   }
 
   -- after the last text all are appended
-  pub strung-all : N ≤ k → Appended lent at (gather N f) out next
-  strung-all h = let e : k ≡ N = omega (arith, s.within) in rw (← e) s.text
+  pub strung_all : N ≤ k → Appended lent at (gather N f) out next
+  strung_all h = let e : k ≡ N = omega (arith, s.within) in rw (← e) s.text
 
 -- ---- parts of a text, call after call
 
@@ -178,12 +178,12 @@ pub record Begun (text lent rest out : List ℕ) (at : ℕ) : Type 0 where
   pub ends : (out' : List ℕ) (last : ℕ) → Appended out at rest out' last → out' ≡ over text lent
 
 -- before the first call all of the text is left
-pub begun-none : (text lent : List ℕ) → length text ≤ length lent → Begun text lent text lent 0
-begun-none text lent h = record { long = refl; room = omega arith; ends = λ out' last a. appended-over a }
+pub begun_none : (text lent : List ℕ) → length text ≤ length lent → Begun text lent text lent 0
+begun_none text lent h = record { long = refl; room = omega arith; ends = λ out' last a. appended_over a }
 
 -- there is room for the next part
-pub begun-room : {text lent out : List ℕ} {at : ℕ} (s t : List ℕ) → Begun text lent (s ++ t) out at → at + length s ≤ length out
-begun-room s t b = omega (arith, b.room, length-append s t)
+pub begun_room : {text lent out : List ℕ} {at : ℕ} (s t : List ℕ) → Begun text lent (s ++ t) out at → at + length s ≤ length out
+begun_room s t b = omega (arith, b.room, length-append s t)
 
 -- the next part is appended
 pub begun_more : {text lent out out' : List ℕ} {at next : ℕ} (s t : List ℕ) → Begun text lent (s ++ t) out at → length out' ≡ length out
@@ -191,5 +191,5 @@ pub begun_more : {text lent out out' : List ℕ} {at next : ℕ} (s t : List ℕ
 begun_more s t b e a = record {
   long = e ∙ b.long;
   room = omega (arith, b.room, length-append s t, a.end);
-  ends = λ out'' last q. b.ends out'' last (appended-more (omega (arith, b.room)) a q);
+  ends = λ out'' last q. b.ends out'' last (appended_more (omega (arith, b.room)) a q);
 }

@@ -7,7 +7,7 @@ use native.Mathlib.Numerals.{add-one}
 use native.Mathlib.Omega.{arith}
 use lib.ListN.{length, take, drop, get_or, length-append, length-take, length-drop, take-append-drop, drop_of_length-le}
 use lib.Seq.{take-suc, take-take, take_at, drop_at, drop-append-le, length-take-le, get_or-take, get_or-drop}
-use Rattle.definitions.proofs.Lists.{getD-in}
+use Rattle.definitions.proofs.Lists.{get_or_in}
 use Rattle.lent.specs.Appended.{Appended, between}
 
 -- up to the same place there are none
@@ -30,7 +30,7 @@ between_split from i to l f h few =
 -- each of them is there
 pub between_in : (from i to : ℕ) (l : List ℕ) → from ≤ i → i < to → to ≤ length l → In (get_or l i 0) (between from to l)
 between_in from i to l f h few =
-    Memᴰ.cast (sym at) (getD-in (between from to l) (i - from) 0 (omega (arith, length-drop from (take to l), length-take-le to l few)))
+    Memᴰ.cast (sym at) (get_or_in (between from to l) (i - from) 0 (omega (arith, length-drop from (take to l), length-take-le to l few)))
   where
     at : get_or (between from to l) (i - from) 0 ≡ get_or l i 0
     at = get_or-drop from (take to l) (i - from) 0 ∙ ap (λ k. get_or (take to l) k 0) {x = from + (i - from)} {y = i} (omega arith) ∙ get_or-take to l i 0 h
@@ -42,21 +42,21 @@ module _ {before : List ℕ} {n : ℕ} {new after : List ℕ} {r : ℕ} (few : n
   front = length-append (take n before) new ∙ ap (λ (k : ℕ). k + length new) (length-take-le n before few) ∙ sym a.end
 
   -- the first r are those before and the new ones
-  pub appended-take : take r after ≡ take n before ++ new
-  appended-take =
+  pub appended_take : take r after ≡ take n before ++ new
+  appended_take =
       ap (take r) (a.list ∙ sym (append_assoc (take n before) new (drop r before)))
       ∙ take_at (take n before ++ new) (drop r before) r front
 
   -- those before are as they were
-  pub appended-kept : (from to : ℕ) → to ≤ n → between from to after ≡ between from to before
-  appended-kept from to h = ap (drop from) (sym (take-take to n after h) ∙ ap (take to) same ∙ take-take to n before h)
+  pub appended_kept : (from to : ℕ) → to ≤ n → between from to after ≡ between from to before
+  appended_kept from to h = ap (drop from) (sym (take-take to n after h) ∙ ap (take to) same ∙ take-take to n before h)
     where
       same : take n after ≡ take n before
       same =
           sym (take-take n r after (omega (arith, a.end)))
-          ∙ ap (take n) appended-take
+          ∙ ap (take n) appended_take
           ∙ take_at (take n before) new n (length-take-le n before few)
 
   -- and after them the new ones stand
-  pub appended-new : between n r after ≡ new
-  appended-new = ap (drop n) appended-take ∙ drop_at (take n before) new n (length-take-le n before few)
+  pub appended_new : between n r after ≡ new
+  appended_new = ap (drop n) appended_take ∙ drop_at (take n before) new n (length-take-le n before few)

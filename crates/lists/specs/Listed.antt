@@ -2,21 +2,21 @@
 use Rattle.std.specs.Prelude.{◌≡◌, List, ℕ, ◌^◌, ◌≤◌, ◌<◌, length, get_or, take}
 use Rattle.sets.specs.Bits.{size}
 use Rattle.definitions.specs.Search.{sort}
-use Rattle.definitions.specs.Table.{maxBonds}
+use Rattle.definitions.specs.Table.{max_bonds}
 use Rattle.definitions.specs.AllRings.{before}
 use Rattle.basis.specs.declared.assembly.Assemblies.{Assemblies}
 use Rattle.basis.specs.Held.{members_of}
-use Rattle.combining.specs.Gibbs.{foundIn}
-use Rattle.perception.specs.Perceiving.{sumsIn}
+use Rattle.combining.specs.Gibbs.{found_in}
+use Rattle.perception.specs.Perceiving.{sums_in}
 
 -- what the combination finds in assemblies of these basis rings, one assembly after another
-abbrev pub ringsFound : List ℕ → Assemblies → List ℕ
-ringsFound rings assemblies = foundIn rings (members_of assemblies) assemblies.count
+abbrev pub rings_found : List ℕ → Assemblies → List ℕ
+rings_found rings assemblies = found_in rings (members_of assemblies) assemblies.count
 
 -- a list of m sets has room for what the combination finds in the first n assemblies, and for the sums of each
 pub record Listable (members : List ℕ) (n m : ℕ) : Type 0 where
-  pub counted : n ≤ maxBonds
-  pub found : sumsIn members n ≤ m
+  pub counted : n ≤ max_bonds
+  pub found : sums_in members n ≤ m
   pub sums : (a : ℕ) → a < n → 2 ^ size (get_or members a 0) ≤ m
 
 -- the first r sets of a list are rings in order

@@ -4,16 +4,16 @@ mod listing;
 mod room;
 
 ghost use Rattle.std.specs.Prelude.{◌≡◌, [], ◌/◌, ◌≤◌, length};
-ghost use Rattle.sets.specs.Lists.{setsIn, words};
+ghost use Rattle.sets.specs.Lists.{sets_in, words};
 ghost use Rattle.definitions.specs.Search.{sort};
-ghost use Rattle.definitions.specs.Table.{table, maxBonds};
-ghost use Rattle.definitions.specs.AllRings.{before, allRings};
-ghost use Rattle.definitions.specs.Smallest.{taking, smallestBasis};
-ghost use Rattle.definitions.specs.Answer.{outcomeOf, writtenSets, refusalOfRings};
+ghost use Rattle.definitions.specs.Table.{table, max_bonds};
+ghost use Rattle.definitions.specs.AllRings.{before, all_rings};
+ghost use Rattle.definitions.specs.Smallest.{taking, smallest_basis};
+ghost use Rattle.definitions.specs.Answer.{outcome_of, written_sets, refusal_of_rings};
 ghost use Rattle.basis.specs.Held.{members_of};
 ghost use Rattle.choosing.specs.Elimination.{Spanned};
 ghost use Rattle.perception.specs.Perceiving.{few, many};
-ghost use Rattle.lists.specs.Listed.{ringsFound, Listable, Workable, most};
+ghost use Rattle.lists.specs.Listed.{rings_found, Listable, Workable, most};
 
 use answers::{Answer, BASIS_WORDS, write_sets};
 use basis::Assemblies;
@@ -32,7 +32,7 @@ fn write_all(
     out: &mut [u64],
 ) -> Answer
     requires { Listable (members_of assemblies) assemblies.count (length found.old / words) × Listable (members_of assemblies) assemblies.count (length ordered.old / words) }
-    ensures { outcomeOf result.number result.count out.new ≡ writtenSets 0 (sort before (ringsFound (setsIn rings.now) assemblies)) out.old }
+    ensures { outcome_of result.number result.count out.new ≡ written_sets 0 (sort before (rings_found (sets_in rings.now) assemblies)) out.old }
 {
     let all = list_rings(rings, assemblies, found, ordered);
     write_sets(ordered, all, out)
@@ -47,8 +47,8 @@ fn write_smallest(
     ordered: &mut [u64],
     out: &mut [u64],
 ) -> Answer
-    requires { (count ≤ maxBonds) × Spanned count (ringsFound (setsIn rings.now) assemblies) × Listable (members_of assemblies) assemblies.count (length found.old / words) × Listable (members_of assemblies) assemblies.count (length ordered.old / words) }
-    ensures { outcomeOf result.number result.count out.new ≡ writtenSets 0 (taking [] (sort before (ringsFound (setsIn rings.now) assemblies))) out.old }
+    requires { (count ≤ max_bonds) × Spanned count (rings_found (sets_in rings.now) assemblies) × Listable (members_of assemblies) assemblies.count (length found.old / words) × Listable (members_of assemblies) assemblies.count (length ordered.old / words) }
+    ensures { outcome_of result.number result.count out.new ≡ written_sets 0 (taking [] (sort before (rings_found (sets_in rings.now) assemblies))) out.old }
 {
     let all = list_rings(rings, assemblies, found, ordered);
     let mut taken = [0u64; BASIS_WORDS];
@@ -59,7 +59,7 @@ fn write_smallest(
 // All rings of the assemblies, where they have few sums.
 fn all_in_few(rings: &[u64; BASIS_WORDS], assemblies: Assemblies, out: &mut [u64]) -> Answer
     requires { Listable (members_of assemblies) assemblies.count few }
-    ensures { outcomeOf result.number result.count out.new ≡ writtenSets 0 (sort before (ringsFound (setsIn rings.now) assemblies)) out.old }
+    ensures { outcome_of result.number result.count out.new ≡ written_sets 0 (sort before (rings_found (sets_in rings.now) assemblies)) out.old }
 {
     let mut found = [0u64; FEW * WORDS];
     let mut ordered = [0u64; FEW * WORDS];
@@ -69,7 +69,7 @@ fn all_in_few(rings: &[u64; BASIS_WORDS], assemblies: Assemblies, out: &mut [u64
 // All rings, where the assemblies have many sums.
 fn all_in_many(rings: &[u64; BASIS_WORDS], assemblies: Assemblies, out: &mut [u64]) -> Answer
     requires { Listable (members_of assemblies) assemblies.count many }
-    ensures { outcomeOf result.number result.count out.new ≡ writtenSets 0 (sort before (ringsFound (setsIn rings.now) assemblies)) out.old }
+    ensures { outcome_of result.number result.count out.new ≡ written_sets 0 (sort before (rings_found (sets_in rings.now) assemblies)) out.old }
 {
     let mut found = [0u64; MANY * WORDS];
     let mut ordered = [0u64; MANY * WORDS];
@@ -79,7 +79,7 @@ fn all_in_many(rings: &[u64; BASIS_WORDS], assemblies: Assemblies, out: &mut [u6
 // All rings, where the assemblies have as many sums as there may be.
 fn all_in_most(rings: &[u64; BASIS_WORDS], assemblies: Assemblies, out: &mut [u64]) -> Answer
     requires { Listable (members_of assemblies) assemblies.count most }
-    ensures { outcomeOf result.number result.count out.new ≡ writtenSets 0 (sort before (ringsFound (setsIn rings.now) assemblies)) out.old }
+    ensures { outcome_of result.number result.count out.new ≡ written_sets 0 (sort before (rings_found (sets_in rings.now) assemblies)) out.old }
 {
     let mut found = [0u64; MOST * WORDS];
     let mut ordered = [0u64; MOST * WORDS];
@@ -93,8 +93,8 @@ fn smallest_in_few(
     assemblies: Assemblies,
     out: &mut [u64],
 ) -> Answer
-    requires { (count ≤ maxBonds) × Spanned count (ringsFound (setsIn rings.now) assemblies) × Listable (members_of assemblies) assemblies.count few }
-    ensures { outcomeOf result.number result.count out.new ≡ writtenSets 0 (taking [] (sort before (ringsFound (setsIn rings.now) assemblies))) out.old }
+    requires { (count ≤ max_bonds) × Spanned count (rings_found (sets_in rings.now) assemblies) × Listable (members_of assemblies) assemblies.count few }
+    ensures { outcome_of result.number result.count out.new ≡ written_sets 0 (taking [] (sort before (rings_found (sets_in rings.now) assemblies))) out.old }
 {
     let mut found = [0u64; FEW * WORDS];
     let mut ordered = [0u64; FEW * WORDS];
@@ -108,8 +108,8 @@ fn smallest_in_many(
     assemblies: Assemblies,
     out: &mut [u64],
 ) -> Answer
-    requires { (count ≤ maxBonds) × Spanned count (ringsFound (setsIn rings.now) assemblies) × Listable (members_of assemblies) assemblies.count many }
-    ensures { outcomeOf result.number result.count out.new ≡ writtenSets 0 (taking [] (sort before (ringsFound (setsIn rings.now) assemblies))) out.old }
+    requires { (count ≤ max_bonds) × Spanned count (rings_found (sets_in rings.now) assemblies) × Listable (members_of assemblies) assemblies.count many }
+    ensures { outcome_of result.number result.count out.new ≡ written_sets 0 (taking [] (sort before (rings_found (sets_in rings.now) assemblies))) out.old }
 {
     let mut found = [0u64; MANY * WORDS];
     let mut ordered = [0u64; MANY * WORDS];
@@ -123,8 +123,8 @@ fn smallest_in_most(
     assemblies: Assemblies,
     out: &mut [u64],
 ) -> Answer
-    requires { (count ≤ maxBonds) × Spanned count (ringsFound (setsIn rings.now) assemblies) × Listable (members_of assemblies) assemblies.count most }
-    ensures { outcomeOf result.number result.count out.new ≡ writtenSets 0 (taking [] (sort before (ringsFound (setsIn rings.now) assemblies))) out.old }
+    requires { (count ≤ max_bonds) × Spanned count (rings_found (sets_in rings.now) assemblies) × Listable (members_of assemblies) assemblies.count most }
+    ensures { outcome_of result.number result.count out.new ≡ written_sets 0 (taking [] (sort before (rings_found (sets_in rings.now) assemblies))) out.old }
 {
     let mut found = [0u64; MOST * WORDS];
     let mut ordered = [0u64; MOST * WORDS];
@@ -142,7 +142,7 @@ fn all_from(
     out: &mut [u64],
 ) -> Answer
     requires { Workable (members_of assemblies) assemblies.count sums }
-    ensures { outcomeOf result.number result.count out.new ≡ writtenSets 0 (sort before (ringsFound (setsIn rings.now) assemblies)) out.old }
+    ensures { outcome_of result.number result.count out.new ≡ written_sets 0 (sort before (rings_found (sets_in rings.now) assemblies)) out.old }
 {
     if lengths == 0 {
         return all_in_most(rings, assemblies, out);
@@ -168,8 +168,8 @@ fn smallest_from(
     sums: usize,
     out: &mut [u64],
 ) -> Answer
-    requires { (count ≤ maxBonds) × Spanned count (ringsFound (setsIn rings.now) assemblies) × Workable (members_of assemblies) assemblies.count sums }
-    ensures { outcomeOf result.number result.count out.new ≡ writtenSets 0 (taking [] (sort before (ringsFound (setsIn rings.now) assemblies))) out.old }
+    requires { (count ≤ max_bonds) × Spanned count (rings_found (sets_in rings.now) assemblies) × Workable (members_of assemblies) assemblies.count sums }
+    ensures { outcome_of result.number result.count out.new ≡ written_sets 0 (taking [] (sort before (rings_found (sets_in rings.now) assemblies))) out.old }
 {
     if lengths == 0 {
         return smallest_in_most(rings, count, assemblies, out);
@@ -188,7 +188,7 @@ fn smallest_from(
 
 // All rings: sets as words, ordered by size and then as numbers.
 pub fn all_rings(atoms: u64, bonds: &[u8], out: &mut [u64]) -> Answer
-    ensures answer { outcomeOf result.number result.count out.new ≡ writtenSets (refusalOfRings (table atoms bonds.now)) (allRings (table atoms bonds.now)) out.old }
+    ensures answer { outcome_of result.number result.count out.new ≡ written_sets (refusal_of_rings (table atoms bonds.now)) (all_rings (table atoms bonds.now)) out.old }
     ensures read { bonds.now ≡ bonds.now }
 {
     let seen = perceive(atoms, bonds);
@@ -204,7 +204,7 @@ pub fn all_rings(atoms: u64, bonds: &[u8], out: &mut [u64]) -> Answer
 
 // The smallest basis: sets as words, as they are taken from all rings.
 pub fn smallest_basis(atoms: u64, bonds: &[u8], out: &mut [u64]) -> Answer
-    ensures answer { outcomeOf result.number result.count out.new ≡ writtenSets (refusalOfRings (table atoms bonds.now)) (smallestBasis (table atoms bonds.now)) out.old }
+    ensures answer { outcome_of result.number result.count out.new ≡ written_sets (refusal_of_rings (table atoms bonds.now)) (smallest_basis (table atoms bonds.now)) out.old }
     ensures read { bonds.now ≡ bonds.now }
 {
     let seen = perceive(atoms, bonds);

@@ -1,8 +1,8 @@
 // The list of all rings: those of one assembly after another, then put in order.
 ghost use Rattle.std.specs.Prelude.{length};
-ghost use Rattle.sets.specs.Lists.{setsIn};
+ghost use Rattle.sets.specs.Lists.{sets_in};
 ghost use Rattle.basis.specs.Held.{members_of};
-ghost use Rattle.lists.specs.Listed.{ringsFound, Listable, Ordered};
+ghost use Rattle.lists.specs.Listed.{rings_found, Listable, Ordered};
 
 use answers::BASIS_WORDS;
 use basis::Assemblies;
@@ -17,8 +17,8 @@ pub(crate) fn list_rings(
     found: &mut [u64],
     ordered: &mut [u64],
 ) -> usize
-    requires { Listable (members_of assemblies) assemblies.count (length (setsIn found.old)) × Listable (members_of assemblies) assemblies.count (length (setsIn ordered.old)) }
-    ensures { Ordered (ringsFound (setsIn rings.now) assemblies) (setsIn ordered.new) result }
+    requires { Listable (members_of assemblies) assemblies.count (length (sets_in found.old)) × Listable (members_of assemblies) assemblies.count (length (sets_in ordered.old)) }
+    ensures { Ordered (rings_found (sets_in rings.now) assemblies) (sets_in ordered.new) result }
 {
     let mut count: usize = 0;
     let mut a: usize = 0;

@@ -11,9 +11,9 @@ use lib.Dec.{eqb}
 use lib.ListN.{length, get_or, take, drop, length-drop, drop_of_length-le}
 use lib.Seq.{drop-cons, length-take-le}
 use Rattle.sets.specs.Bits.{size}
-use Rattle.sets.specs.Lists.{words, setsIn, words_of}
+use Rattle.sets.specs.Lists.{words, sets_in, words_of}
 use Rattle.sets.proofs.Lists.{sets-room, sets-drop, words_are, words-between, words-none, words-some}
-use Rattle.lookup.specs.Lookup.{start, run, some?, Lent, sets, part, found, ofSize}
+use Rattle.lookup.specs.Lookup.{start, run, some?, Lent, sets, part, found, of_size}
 
 -- ---- the sets from i on begin with the one at i, which has r bonds
 
@@ -23,9 +23,9 @@ module _ (n : ℕ) (l : List ℕ) (i : ℕ) (inside : i < length l) {r : ℕ} (b
   test = ap (λ (k : ℕ). eqb k n) (sym bonds)
 
   -- with n bonds it is the first that has them
-  pub start-here : not (eqb r n) ≡ false → start n (drop i l) ≡ 0
+  pub start_here : not (eqb r n) ≡ false → start n (drop i l) ≡ 0
   unfolding start
-  start-here e = rw (drop-cons l i 0 inside, test, not-false (eqb r n) e)
+  start_here e = rw (drop-cons l i 0 inside, test, not-false (eqb r n) e)
 
   -- with another number the first stands one set further than from i + 1
   pub start-on : not (eqb r n) ≡ true → start n (drop i l) ≡ suc (start n (drop (i + 1) l))
@@ -38,9 +38,9 @@ module _ (n : ℕ) (l : List ℕ) (i : ℕ) (inside : i < length l) {r : ℕ} (b
   run_on e = rw (add-one, drop-cons l i 0 inside, test, e)
 
   -- with another number there is no run
-  pub run-here : eqb r n ≡ false → run n (drop i l) ≡ 0
+  pub run_here : eqb r n ≡ false → run n (drop i l) ≡ 0
   unfolding run
-  run-here e = rw (drop-cons l i 0 inside, test, e)
+  run_here e = rw (drop-cons l i 0 inside, test, e)
 
 -- ---- there is no set from i on
 
@@ -96,9 +96,9 @@ abbrev pub stretch : Lent → ℕ → ℕ → Lent
 stretch l from count = record { place = (l.place.0, from * 8 + l.place.1); words = take count (drop from l.words) }
 
 -- it ends within the list
-pub found-room : (n : ℕ) (ws : List ℕ) {a e : ℕ} → a ≡ start n (setsIn ws) → e ≡ a + run n (drop a (setsIn ws)) → e * words ≤ length ws
+pub found-room : (n : ℕ) (ws : List ℕ) {a e : ℕ} → a ≡ start n (sets_in ws) → e ≡ a + run n (drop a (sets_in ws)) → e * words ≤ length ws
 found-room n ws {a} {e} at-start at-end =
-    let l = setsIn ws in
+    let l = sets_in ws in
     omega (arith, words_are e, sets-room e ws (omega (arith, start-le n l, run-le n (drop a l), length-drop a l)))
 
 -- it is the part from a to e
@@ -114,7 +114,7 @@ module _ (n : ℕ) (l : Lent) {q : Lent} (is : q ≡ found n l) where
   found-length =
       let a = start n (sets l) in
       let rest = sets-drop a l.words (start-le n (sets l)) in
-      let few : run n (drop a (sets l)) ≤ length (setsIn (drop (words_of a) l.words)) = rw rest (run-le n (drop a (sets l))) in
+      let few : run n (drop a (sets l)) ≤ length (sets_in (drop (words_of a) l.words)) = rw rest (run-le n (drop a (sets l))) in
       ap (λ (p : Lent). length p.words) is ∙ length-take-le _ _ (sets-room _ _ few)
 
   -- where it is not empty a set of the list has n bonds
@@ -133,17 +133,17 @@ module _ (n : ℕ) (l : Lent) {q : Lent} (is : q ≡ found n l) where
 
 module _ (n : ℕ) (first second : Lent) {q : Lent} (in-first : q ≡ found n first) where
   -- what is found in the first, where it is not empty
-  pub of-first : 0 < length q.words → q ≡ ofSize n first second
-  unfolding ofSize
-  of-first some = rw (found_some n first in-first some) in-first
+  pub of_first : 0 < length q.words → q ≡ of_size n first second
+  unfolding of_size
+  of_first some = rw (found_some n first in-first some) in-first
 
   -- else what is found in the second, where it is not empty
-  pub of-second : length q.words ≤ 0 → {r : Lent} → r ≡ found n second → 0 < length r.words → r ≡ ofSize n first second
-  unfolding ofSize
-  of-second none in-second some = rw (found_none n first in-first none, found_some n second in-second some) in-second
+  pub of_second : length q.words ≤ 0 → {r : Lent} → r ≡ found n second → 0 < length r.words → r ≡ of_size n first second
+  unfolding of_size
+  of_second none in-second some = rw (found_none n first in-first none, found_some n second in-second some) in-second
 
   -- else no words, at the place where the first list begins
-  pub of-neither : length q.words ≤ 0 → {r : Lent} → r ≡ found n second → length r.words ≤ 0 → stretch first 0 0 ≡ ofSize n first second
-  unfolding ofSize
-  of-neither none in-second none-either =
+  pub of_neither : length q.words ≤ 0 → {r : Lent} → r ≡ found n second → length r.words ≤ 0 → stretch first 0 0 ≡ of_size n first second
+  unfolding of_size
+  of_neither none in-second none-either =
       rw (found_none n first in-first none, found_none n second in-second none-either) (ap (λ (k : ℕ). stretch first k k) (sym words-none))

@@ -2,7 +2,7 @@
 use Rattle.std.specs.Prelude.{Bool, cond, List, [], ◌∷◌, ℕ, suc, ◌+◌, ◌*◌, eqb, ltb, length, take, drop}
 use Rattle.std.specs.Borrow.{Bor}
 use Rattle.sets.specs.Bits.{size}
-use Rattle.sets.specs.Lists.{setsIn, words_of}
+use Rattle.sets.specs.Lists.{sets_in, words_of}
 
 -- where the first set with n bonds stands, by the number of sets before it; at the end where no set has n bonds
 unfoldable pub start : ℕ → List ℕ → ℕ
@@ -29,7 +29,7 @@ lent r = record { place = r.ref_ptr; words = r.now }
 
 -- the sets of a lent list
 abbrev pub sets : Lent → List ℕ
-sets l = setsIn l.words
+sets l = sets_in l.words
 
 -- the part of a lent list that begins `from` sets behind its start and is `count` sets long; a word has 8 bytes
 abbrev pub part : Lent → ℕ → ℕ → Lent
@@ -41,5 +41,5 @@ found n l = part l (start n (sets l)) (run n (drop (start n (sets l)) (sets l)))
 
 -- what is found in the first list; where no set of it has n bonds, what is found in the second; where none of that has n either, no sets, at
 -- the place where the first list begins
-unfoldable pub ofSize : ℕ → Lent → Lent → Lent
-ofSize n first second = cond (some? n (sets first)) (found n first) (cond (some? n (sets second)) (found n second) (part first 0 0))
+unfoldable pub of_size : ℕ → Lent → Lent → Lent
+of_size n first second = cond (some? n (sets first)) (found n first) (cond (some? n (sets second)) (found n second) (part first 0 0))

@@ -2,7 +2,7 @@
 // lists. It takes lists of any length, and every size.
 ghost use Rattle.std.specs.Prelude.{◌≡◌, ◌+◌, ◌<◌, length, get_or, drop};
 ghost use Rattle.sets.specs.Bits as bits;
-ghost use Rattle.sets.specs.Lists.{setsIn};
+ghost use Rattle.sets.specs.Lists.{sets_in};
 ghost use Rattle.lookup.specs.Lookup as spec;
 
 use sets::list::sets_in;
@@ -10,15 +10,15 @@ use sets::{BondSet, WORDS};
 
 // How many bonds the set at place i has.
 fn bonds_at(list: &[u64], i: usize) -> u64
-    requires { i < length (setsIn list.now) }
-    ensures { result ≡ bits.size (get_or (setsIn list.now) i 0) }
+    requires { i < length (sets_in list.now) }
+    ensures { result ≡ bits.size (get_or (sets_in list.now) i 0) }
 {
     BondSet::at(list, i).size() as u64
 }
 
 // Where the first set of that size stands; at the end where there is none.
 fn run_start(list: &[u64], size: u64) -> usize
-    ensures { result ≡ spec.start size (setsIn list.now) }
+    ensures { result ≡ spec.start size (sets_in list.now) }
 {
     let n = sets_in(list);
     let mut i: usize = 0;
@@ -30,7 +30,7 @@ fn run_start(list: &[u64], size: u64) -> usize
 
 // Where the sets from `start` on stop having that size.
 fn run_end(list: &[u64], start: usize, size: u64) -> usize
-    ensures { result ≡ start + spec.run size (drop start (setsIn list.now)) }
+    ensures { result ≡ start + spec.run size (drop start (sets_in list.now)) }
 {
     let n = sets_in(list);
     let mut i: usize = start;
@@ -52,7 +52,7 @@ fn found<'a>(list: &'a [u64], size: u64) -> &'a [u64]
 // What is found in the first list, or, where no set there has that size, in the second. Where none of the second has it either, no words, at
 // the place where the first list begins.
 pub fn of_size<'a>(first: &'a [u64], second: &'a [u64], size: u64) -> &'a [u64]
-    ensures part { spec.lent result ≡ spec.ofSize size (spec.lent first.entry) (spec.lent second.entry) }
+    ensures part { spec.lent result ≡ spec.of_size size (spec.lent first.entry) (spec.lent second.entry) }
     ensures read { (first.now ≡ first.now) × (second.now ≡ second.now) }
 {
     let in_first = found(first, size);

@@ -6,22 +6,22 @@ use native.Mathlib.Omega.{arith}
 use lib.ListN.{length, set, length-set, length-append}
 use Rattle.definitions.specs.Text.{glyph, hex, decimal}
 use Rattle.lent.specs.Appended.{Appended}
-use Rattle.lent.proofs.Appending.{appended-byte, appended-more, appended-as}
+use Rattle.lent.proofs.Appending.{appended_byte, appended_more, appended_as}
 use Rattle.records.specs.Spaced.{spaced}
 
 -- the same place said otherwise
-pub appended-to : {l m s : List ℕ} {i j k : ℕ} → j ≡ k → Appended l i s m j → Appended l i s m k
-appended-to e a = rw (← e) a
+pub appended_to : {l m s : List ℕ} {i j k : ℕ} → j ≡ k → Appended l i s m j → Appended l i s m k
+appended_to e a = rw (← e) a
 
 -- the two digits of a byte, stored one after the other
-pub appended-hex : (l : List ℕ) (at b : ℕ) {x y : ℕ} → at + 2 ≤ length l → x ≡ glyph (b / 16) → y ≡ glyph (b % 16)
+pub appended_hex : (l : List ℕ) (at b : ℕ) {x y : ℕ} → at + 2 ≤ length l → x ≡ glyph (b / 16) → y ≡ glyph (b % 16)
     → Appended l at (hex (b ∷ [])) (set (set l at x) (at + 1) y) (at + 2)
 unfolding hex
-appended-hex l at b {x} {y} h p q =
+appended_hex l at b {x} {y} h p q =
     let h₂ : at + 1 < length (set l at x) = simp length-set (omega arith) in
     let e : at + 1 + 1 ≡ at + 2 = omega arith in
-    appended-as (ap₂ (λ (u v : ℕ). u ∷ v ∷ []) p q)
-    (appended-to e (appended-more (omega arith) (appended-byte l at x (omega arith)) (appended-byte (set l at x) (at + 1) y h₂)))
+    appended_as (ap₂ (λ (u v : ℕ). u ∷ v ∷ []) p q)
+    (appended_to e (appended_more (omega arith) (appended_byte l at x (omega arith)) (appended_byte (set l at x) (at + 1) y h₂)))
 
 -- a number and a space are one byte longer than the number
 pub length-spaced : (n : ℕ) → length (spaced n) ≡ length (decimal n) + 1

@@ -23,7 +23,7 @@ fn length_at(bytes: &[u8], at: usize) -> usize
 
 // The atom count of the record that a list starts with.
 pub fn atoms_of(bytes: &[u8]) -> u8
-    requires { spec.headBytes ≤ length bytes.now }
+    requires { spec.head_bytes ≤ length bytes.now }
     ensures { result ≡ get_or bytes.now 3 0 }
 {
     bytes[3]
@@ -31,8 +31,8 @@ pub fn atoms_of(bytes: &[u8]) -> u8
 
 // How many bytes the record has that a list starts with.
 pub fn record_bytes(bytes: &[u8]) -> usize
-    requires { spec.headBytes ≤ length bytes.now }
-    ensures { result ≡ spec.recordBytes bytes.now }
+    requires { spec.head_bytes ≤ length bytes.now }
+    ensures { result ≡ spec.record_bytes bytes.now }
 {
     RECORD_HEAD + length_at(bytes, 5)
 }

@@ -5,73 +5,73 @@ use Prim.Native.Nat.{ℕ, ◌≤◌, ◌<◌}
 use native.Mathlib.Omega.{arith}
 use lib.ListN.{length, get_or, take, drop, replicate, length-append, length-replicate}
 use lib.Seq.{take-append_seam}
-use Rattle.sets.specs.Ring.{bits, noRings}
-use Rattle.sets.specs.Lists.{setsIn}
+use Rattle.sets.specs.Ring.{bits, no_rings}
+use Rattle.sets.specs.Lists.{sets_in}
 use Rattle.definitions.specs.Search.{gather, picked}
-use Rattle.definitions.specs.Table.{Table, refusal, maxBonds}
-use Rattle.definitions.specs.Basis.{basisRings}
-use Rattle.definitions.specs.Assembly.{assemblyCount, ringsIn}
+use Rattle.definitions.specs.Table.{Table, refusal, max_bonds}
+use Rattle.definitions.specs.Basis.{basis_rings}
+use Rattle.definitions.specs.Assembly.{assembly_count, rings_in}
 use Rattle.definitions.specs.Answer.{over}
-use Rattle.definitions.specs.Reduced.{reduced, reducedBasis}
-use Rattle.definitions.proofs.Linking.{length-assembled}
+use Rattle.definitions.specs.Reduced.{reduced, reduced_basis}
+use Rattle.definitions.proofs.Linking.{length_assembled}
 use Rattle.basis.specs.declared.basis.Basis.{Basis}
 use Rattle.basis.specs.declared.assembly.Assemblies.{Assemblies}
-use Rattle.basis.specs.Held.{ringsOf, Holds, members_of, AssembliesOf}
-use Rattle.basis.proofs.Holding.{held-assemblies, members-at, picked_all}
-use Rattle.reduced.specs.Picked.{pickedBy}
+use Rattle.basis.specs.Held.{rings_of, Holds, members_of, AssembliesOf}
+use Rattle.basis.proofs.Holding.{held_assemblies, members-at, picked_all}
+use Rattle.reduced.specs.Picked.{picked_by}
 use Rattle.reduced.specs.Reduces.{Reduces}
 use Rattle.reduced.specs.declared.Reduced.{Reduced}
 use Rattle.reduced.proofs.Gathering.{gather-reduced-length}
 
 -- the set at place a of the assemblies picks
-pub picked-at : (rings : List ℕ) (s : Assemblies) (a : ℕ) → picked rings (bits (get_or s.members a noRings)) ≡ pickedBy rings (members_of s) a
+pub picked-at : (rings : List ℕ) (s : Assemblies) (a : ℕ) → picked rings (bits (get_or s.members a no_rings)) ≡ picked_by rings (members_of s) a
 picked-at rings s a = ap (picked rings) (sym (members-at s.members a))
 
 -- the reduced basis has as many sets as there are basis rings
-pub reduced-counted : (M : Table) {n : ℕ} → n ≡ length (basisRings M) → n ≡ length (reducedBasis M)
-unfolding reducedBasis
-reduced-counted M e = e ∙ sym (gather-reduced-length (assemblyCount (basisRings M)) (ringsIn (basisRings M)) ∙ length-assembled (basisRings M))
+pub reduced-counted : (M : Table) {n : ℕ} → n ≡ length (basis_rings M) → n ≡ length (reduced_basis M)
+unfolding reduced_basis
+reduced-counted M e = e ∙ sym (gather-reduced-length (assembly_count (basis_rings M)) (rings_in (basis_rings M)) ∙ length_assembled (basis_rings M))
 
-module _ {M : Table} {b : Basis} {s : Assemblies} (basis : Holds M b) (parts : AssembliesOf (ringsOf b) s) where
+module _ {M : Table} {b : Basis} {s : Assemblies} (basis : Holds M b) (parts : AssembliesOf (rings_of b) s) where
   -- what is picked fits where there is a place for each bond
-  pub picked_fits : (blank : List ℕ) → setsIn blank ≡ replicate maxBonds 0
-      → (s.count ≤ maxBonds) × (length (gather s.count (pickedBy (setsIn b.rings) (members_of s))) ≤ length (setsIn blank))
+  pub picked_fits : (blank : List ℕ) → sets_in blank ≡ replicate max_bonds 0
+      → (s.count ≤ max_bonds) × (length (gather s.count (picked_by (sets_in b.rings) (members_of s))) ≤ length (sets_in blank))
   picked_fits blank none =
-      let places : length (setsIn blank) ≡ maxBonds = ap length none ∙ length-replicate {A = ℕ} maxBonds 0 in
-      let all = ap length (picked_all basis (held-assemblies basis parts) (λ (l : List ℕ). l)) ∙ length-assembled (basisRings M) in
+      let places : length (sets_in blank) ≡ max_bonds = ap length none ∙ length-replicate {A = ℕ} max_bonds 0 in
+      let all = ap length (picked_all basis (held_assemblies basis parts) (λ (l : List ℕ). l)) ∙ length_assembled (basis_rings M) in
       (parts.counted, omega (arith, all, basis.count, basis.counted))
 
   -- each reduced, they are the reduced basis
-  picked-reduced : gather s.count (λ a. reduced (pickedBy (setsIn b.rings) (members_of s) a)) ≡ reducedBasis M
-  unfolding reducedBasis
-  picked-reduced = picked_all basis (held-assemblies basis parts) reduced
+  picked-reduced : gather s.count (λ a. reduced (picked_by (sets_in b.rings) (members_of s) a)) ≡ reduced_basis M
+  unfolding reduced_basis
+  picked-reduced = picked_all basis (held_assemblies basis parts) reduced
 
   -- an accepted table: the reduced basis is handed back
-  pub reduces-accepted : {n : ℕ} → n ≡ refusal M → n ≤ 0 → (blank ws : List ℕ) → setsIn blank ≡ replicate maxBonds 0
-      → setsIn ws ≡ over (gather s.count (λ a. reduced (pickedBy (setsIn b.rings) (members_of s) a))) (setsIn blank)
+  pub reduces_accepted : {n : ℕ} → n ≡ refusal M → n ≤ 0 → (blank ws : List ℕ) → sets_in blank ≡ replicate max_bonds 0
+      → sets_in ws ≡ over (gather s.count (λ a. reduced (picked_by (sets_in b.rings) (members_of s) a))) (sets_in blank)
       → Reduces M (record { number = 0; sets = ws; count = b.count })
-  reduces-accepted given h blank ws none list = record {
+  reduces_accepted given h blank ws none list = record {
     number = omega arith;
     refused = λ no. absurd (no (omega arith));
     accepted = λ z. (reduced-counted M basis.count, list ∙ ap₂ over picked-reduced none);
   }
 
 -- a refused table: no sets are handed back
-pub reduces-refused : {M : Table} {n : ℕ} → n ≡ refusal M → 0 < n → (ws : List ℕ) → setsIn ws ≡ replicate maxBonds 0 → Reduces M (record { number = n; sets = ws; count = 0 })
-reduces-refused given h ws none = record { number = given; refused = λ no. (refl, none); accepted = λ z. absurd (omega arith) }
+pub reduces_refused : {M : Table} {n : ℕ} → n ≡ refusal M → 0 < n → (ws : List ℕ) → sets_in ws ≡ replicate max_bonds 0 → Reduces M (record { number = n; sets = ws; count = 0 })
+reduces_refused given h ws none = record { number = given; refused = λ no. (refl, none); accepted = λ z. absurd (omega arith) }
 
 -- ---- what is handed back of an accepted table
 
 module _ {M : Table} {r : Reduced} (h : Reduces M r) (ok : r.number ≤ 0) where
-  held : (r.count ≡ length (reducedBasis M)) × (setsIn r.sets ≡ over (reducedBasis M) (replicate maxBonds 0))
+  held : (r.count ≡ length (reduced_basis M)) × (sets_in r.sets ≡ over (reduced_basis M) (replicate max_bonds 0))
   held = h.accepted (omega (arith, h.number))
 
   -- the sets that are counted are there
-  pub reduces-room : r.count ≤ length (setsIn r.sets)
+  pub reduces_room : r.count ≤ length (sets_in r.sets)
   unfolding over
-  reduces-room = omega (arith, held.0, ap length held.1 ∙ length-append (reducedBasis M) (drop (length (reducedBasis M)) (replicate maxBonds 0)))
+  reduces_room = omega (arith, held.0, ap length held.1 ∙ length-append (reduced_basis M) (drop (length (reduced_basis M)) (replicate max_bonds 0)))
 
   -- and are the reduced basis
-  pub reduces-sets : take r.count (setsIn r.sets) ≡ reducedBasis M
+  pub reduces_sets : take r.count (sets_in r.sets) ≡ reduced_basis M
   unfolding over
-  reduces-sets = ap₂ take held.0 held.1 ∙ take-append_seam (reducedBasis M) (drop (length (reducedBasis M)) (replicate maxBonds 0))
+  reduces_sets = ap₂ take held.0 held.1 ∙ take-append_seam (reduced_basis M) (drop (length (reduced_basis M)) (replicate max_bonds 0))

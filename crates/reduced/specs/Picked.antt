@@ -3,5 +3,5 @@ use Rattle.std.specs.Prelude.{List, ℕ, get_or}
 use Rattle.definitions.specs.Search.{picked}
 
 -- the sets that the set at place a picks
-abbrev pub pickedBy : List ℕ → List ℕ → ℕ → List ℕ
-pickedBy rings members a = picked rings (get_or members a 0)
+abbrev pub picked_by : List ℕ → List ℕ → ℕ → List ℕ
+picked_by rings members a = picked rings (get_or members a 0)

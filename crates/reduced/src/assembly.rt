@@ -1,13 +1,13 @@
 // The reduced sets of the assemblies, one assembly after another, over the start of a list.
 ghost use Rattle.std.specs.Prelude.{◌≡◌, ◌≤◌, length};
 ghost use Rattle.sets.specs.Ring.{bits};
-ghost use Rattle.sets.specs.Lists.{setsIn};
+ghost use Rattle.sets.specs.Lists.{sets_in};
 ghost use Rattle.definitions.specs.Search.{gather, picked};
-ghost use Rattle.definitions.specs.Table.{maxBonds};
+ghost use Rattle.definitions.specs.Table.{max_bonds};
 ghost use Rattle.definitions.specs.Answer.{over};
 ghost use Rattle.definitions.specs.Reduced as spec;
 ghost use Rattle.basis.specs.Held.{members_of};
-ghost use Rattle.reduced.specs.Picked.{pickedBy};
+ghost use Rattle.reduced.specs.Picked.{picked_by};
 
 use super::sweep::sweep_until_still;
 use answers::BASIS_WORDS;
@@ -16,10 +16,10 @@ use sets::{BondSet, RingSet, WORDS};
 
 // The basis rings of an assembly, in order, and how many there are.
 fn write_members(rings: &[u64; BASIS_WORDS], members: RingSet, out: &mut [u64]) -> usize
-    requires { length (picked (setsIn rings.now) (bits members)) ≤ length (setsIn out.old) }
-    ensures count { result ≡ length (picked (setsIn rings.now) (bits members)) }
+    requires { length (picked (sets_in rings.now) (bits members)) ≤ length (sets_in out.old) }
+    ensures count { result ≡ length (picked (sets_in rings.now) (bits members)) }
     ensures long { length out.new ≡ length out.old }
-    ensures list { setsIn out.new ≡ over (picked (setsIn rings.now) (bits members)) (setsIn out.old) }
+    ensures list { sets_in out.new ≡ over (picked (sets_in rings.now) (bits members)) (sets_in out.old) }
 {
     let mut n: usize = 0;
     let mut i = members.next(0);
@@ -33,10 +33,10 @@ fn write_members(rings: &[u64; BASIS_WORDS], members: RingSet, out: &mut [u64]) 
 
 // The reduced sets of an assembly, and how many there are.
 fn reduce_assembly(rings: &[u64; BASIS_WORDS], members: RingSet, out: &mut [u64]) -> usize
-    requires { length (picked (setsIn rings.now) (bits members)) ≤ length (setsIn out.old) }
-    ensures count { result ≡ length (picked (setsIn rings.now) (bits members)) }
+    requires { length (picked (sets_in rings.now) (bits members)) ≤ length (sets_in out.old) }
+    ensures count { result ≡ length (picked (sets_in rings.now) (bits members)) }
     ensures long { length out.new ≡ length out.old }
-    ensures list { setsIn out.new ≡ over (spec.reduced (picked (setsIn rings.now) (bits members))) (setsIn out.old) }
+    ensures list { sets_in out.new ≡ over (spec.reduced (picked (sets_in rings.now) (bits members))) (sets_in out.old) }
 {
     let n = write_members(rings, members, out);
     let words = n * WORDS;
@@ -46,9 +46,9 @@ fn reduce_assembly(rings: &[u64; BASIS_WORDS], members: RingSet, out: &mut [u64]
 
 // The reduced sets of the assemblies, one assembly after another.
 pub(crate) fn reduce_all(rings: &[u64; BASIS_WORDS], found: Assemblies, out: &mut [u64])
-    requires { (found.count ≤ maxBonds) × (length (gather found.count (pickedBy (setsIn rings.now) (members_of found))) ≤ length (setsIn out.old)) }
+    requires { (found.count ≤ max_bonds) × (length (gather found.count (picked_by (sets_in rings.now) (members_of found))) ≤ length (sets_in out.old)) }
     ensures long { length out.new ≡ length out.old }
-    ensures list { setsIn out.new ≡ over (gather found.count (λ a. spec.reduced (pickedBy (setsIn rings.now) (members_of found) a))) (setsIn out.old) }
+    ensures list { sets_in out.new ≡ over (gather found.count (λ a. spec.reduced (picked_by (sets_in rings.now) (members_of found) a))) (sets_in out.old) }
 {
     let mut at: usize = 0;
     for a in 0..found.count {

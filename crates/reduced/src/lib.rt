@@ -4,8 +4,8 @@ mod sweep;
 
 ghost use Rattle.std.specs.Prelude.{◌≡◌};
 ghost use Rattle.definitions.specs.Table.{table, refusal};
-ghost use Rattle.definitions.specs.Reduced.{reducedBasis};
-ghost use Rattle.definitions.specs.Answer.{outcomeOf, writtenSets};
+ghost use Rattle.definitions.specs.Reduced.{reduced_basis};
+ghost use Rattle.definitions.specs.Answer.{outcome_of, written_sets};
 ghost use Rattle.reduced.specs.Reduces.{Reduces};
 
 use answers::{Answer, BASIS_WORDS, write_sets};
@@ -43,7 +43,7 @@ pub fn reduce(atoms: u64, bonds: &[u8]) -> Reduced
 
 // The reduced basis: sets as words, assemblies in order; the refusals of a table, then 8.
 pub fn reduced_basis(atoms: u64, bonds: &[u8], out: &mut [u64]) -> Answer
-    ensures answer { outcomeOf result.number result.count out.new ≡ writtenSets (refusal (table atoms bonds.now)) (reducedBasis (table atoms bonds.now)) out.old }
+    ensures answer { outcome_of result.number result.count out.new ≡ written_sets (refusal (table atoms bonds.now)) (reduced_basis (table atoms bonds.now)) out.old }
     ensures read { bonds.now ≡ bonds.now }
 {
     let found = reduce(atoms, bonds);

@@ -2,7 +2,7 @@
 ghost use Rattle.std.specs.Prelude.{◌≡◌, cond, ◌+◌, ◌-◌, ◌<◌, length, ltb};
 ghost use Rattle.sets.specs.Bits.{size};
 ghost use Rattle.sets.specs.Bond.{bits};
-ghost use Rattle.sets.specs.Lists.{setsIn};
+ghost use Rattle.sets.specs.Lists.{sets_in};
 ghost use Rattle.definitions.specs.Reduced as spec;
 ghost use Rattle.reduced.specs.Change.{changed?};
 
@@ -25,10 +25,10 @@ fn either(test: bool, one: BondSet, other: BondSet) -> BondSet
 
 // The exchange at the pair (j, i), and whether it changes anything.
 fn exchange(sets: &mut [u64], j: usize, i: usize) -> bool
-    requires { (j < i) × (i < length (setsIn sets.old)) }
+    requires { (j < i) × (i < length (sets_in sets.old)) }
     ensures long { length sets.new ≡ length sets.old }
-    ensures list { setsIn sets.new ≡ spec.exchange (setsIn sets.old) j i }
-    ensures told { result ≡ changed? (setsIn sets.old) (setsIn sets.new) }
+    ensures list { sets_in sets.new ≡ spec.exchange (sets_in sets.old) j i }
+    ensures told { result ≡ changed? (sets_in sets.old) (sets_in sets.new) }
 {
     let first = BondSet::at(sets, j);
     let second = BondSet::at(sets, i);
@@ -43,10 +43,10 @@ fn exchange(sets: &mut [u64], j: usize, i: usize) -> bool
 
 // The pairs of set j with each set after it, and whether one changes anything.
 fn along(sets: &mut [u64], j: usize) -> bool
-    requires { j < length (setsIn sets.old) }
+    requires { j < length (sets_in sets.old) }
     ensures long { length sets.new ≡ length sets.old }
-    ensures list { setsIn sets.new ≡ spec.along j (j + 1) (length (setsIn sets.old) - (j + 1)) (setsIn sets.old) }
-    ensures told { result ≡ changed? (setsIn sets.old) (setsIn sets.new) }
+    ensures list { sets_in sets.new ≡ spec.along j (j + 1) (length (sets_in sets.old) - (j + 1)) (sets_in sets.old) }
+    ensures told { result ≡ changed? (sets_in sets.old) (sets_in sets.new) }
 {
     let mut changed = false;
     for i in j + 1..sets_in(sets) {
@@ -58,8 +58,8 @@ fn along(sets: &mut [u64], j: usize) -> bool
 // One sweep over all pairs, and whether it changes anything.
 fn sweep(sets: &mut [u64]) -> bool
     ensures long { length sets.new ≡ length sets.old }
-    ensures list { setsIn sets.new ≡ spec.sweep (setsIn sets.old) }
-    ensures told { result ≡ changed? (setsIn sets.old) (setsIn sets.new) }
+    ensures list { sets_in sets.new ≡ spec.sweep (sets_in sets.old) }
+    ensures told { result ≡ changed? (sets_in sets.old) (sets_in sets.new) }
 {
     let mut changed = false;
     for j in 0..sets_in(sets) {
@@ -71,7 +71,7 @@ fn sweep(sets: &mut [u64]) -> bool
 // Sweeps until one changes nothing.
 pub(crate) fn sweep_until_still(sets: &mut [u64])
     ensures long { length sets.new ≡ length sets.old }
-    ensures list { setsIn sets.new ≡ spec.reduced (setsIn sets.old) }
+    ensures list { sets_in sets.new ≡ spec.reduced (sets_in sets.old) }
 {
     while sweep(sets) {}
 }

@@ -20,8 +20,8 @@ pub record Renumbered (M N : Table) : Type 0 where
   pub atom⁻¹ : ℕ → ℕ
   pub bond : ℕ → ℕ
   pub bond⁻¹ : ℕ → ℕ
-  pub atoms-renamed : Renames M.atoms atom atom⁻¹
-  pub bonds-renamed : Renames (bonds M) bond bond⁻¹
+  pub atoms_renamed : Renames M.atoms atom atom⁻¹
+  pub bonds_renamed : Renames (bonds M) bond bond⁻¹
   pub ends : (k : ℕ) → k < bonds M → Joins N (bond k) (atom (tail M k)) (atom (head M k))
 
 -- each bond joins atoms of the table: both its ends are below the atom count

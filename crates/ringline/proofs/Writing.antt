@@ -6,59 +6,59 @@ use Prim.Native.Nat.{ℕ, zero, suc, ◌+◌, ◌-◌}
 use native.Mathlib.Omega.{arith}
 use lib.ListN.{length, length-append}
 use Rattle.definitions.specs.Text.{decimal, hex, space, newline}
-use Rattle.definitions.specs.Ringline.{labelText, endLine, frameLine}
+use Rattle.definitions.specs.Ringline.{label_text, end_line, frame_line}
 use Rattle.records.specs.Spaced.{spaced}
-use Rattle.ringline.specs.Line.{answerLine, lastLine}
+use Rattle.ringline.specs.Line.{answer_line, last_line}
 
 -- ---- how long the lines are
 
 -- `end `, the number and the line's end
-pub length-endLine : (n : ℕ) → length (endLine n) ≡ length (decimal n) + 5
-unfolding endLine
-length-endLine n = omega (arith, length-append (decimal n) (newline ∷ []))
+pub length-end_line : (n : ℕ) → length (end_line n) ≡ length (decimal n) + 5
+unfolding end_line
+length-end_line n = omega (arith, length-append (decimal n) (newline ∷ []))
 
 -- the number and ` frame` with the line's end
-pub length-frameLine : (n : ℕ) → length (frameLine n) ≡ length (decimal n) + 7
-unfolding frameLine
-length-frameLine n = length-append (decimal n) _
+pub length-frame_line : (n : ℕ) → length (frame_line n) ≡ length (decimal n) + 7
+unfolding frame_line
+length-frame_line n = length-append (decimal n) _
 
 -- two numbers, each with a space, the label's text and the line's end
-pub length-answerLine : (n c : ℕ) (label : List ℕ) → length (answerLine n c label) ≡ length (decimal n) + length (decimal c) + length (labelText c label) + 3
-unfolding answerLine
-length-answerLine n c label = omega (arith, length-append (decimal n) (space ∷ (decimal c ++ (space ∷ (labelText c label ++ (newline ∷ []))))), length-append (decimal c) (space ∷ (labelText c label ++ (newline ∷ []))), length-append (labelText c label) (newline ∷ []))
+pub length-answer_line : (n c : ℕ) (label : List ℕ) → length (answer_line n c label) ≡ length (decimal n) + length (decimal c) + length (label_text c label) + 3
+unfolding answer_line
+length-answer_line n c label = omega (arith, length-append (decimal n) (space ∷ (decimal c ++ (space ∷ (label_text c label ++ (newline ∷ []))))), length-append (decimal c) (space ∷ (label_text c label ++ (newline ∷ []))), length-append (label_text c label) (newline ∷ []))
 
 -- ---- the parts of a line
 
 -- a number, a space and `frame`
-pub frame-parts : (n : ℕ) → spaced n ++ (102 ∷ 114 ∷ 97 ∷ 109 ∷ 101 ∷ newline ∷ []) ≡ frameLine n
-unfolding spaced frameLine
-frame-parts n = append_assoc (decimal n) _ _
+pub frame_parts : (n : ℕ) → spaced n ++ (102 ∷ 114 ∷ 97 ∷ 109 ∷ 101 ∷ newline ∷ []) ≡ frame_line n
+unfolding spaced frame_line
+frame_parts n = append_assoc (decimal n) _ _
 
 -- two numbers, each with a space, the label's text and the line's end
-pub answer-parts : (n c : ℕ) (label : List ℕ) → spaced n ++ (spaced c ++ (labelText c label ++ (newline ∷ []))) ≡ answerLine n c label
-unfolding spaced answerLine
-answer-parts n c label =
+pub answer_parts : (n c : ℕ) (label : List ℕ) → spaced n ++ (spaced c ++ (label_text c label ++ (newline ∷ []))) ≡ answer_line n c label
+unfolding spaced answer_line
+answer_parts n c label =
     append_assoc (decimal n) _ _
     ∙ ap (λ (t : List ℕ). decimal n ++ (space ∷ t)) (append_assoc (decimal c) _ _)
 
 -- an accepted table has its label in hex
-pub text-accepted : (c : ℕ) (label : List ℕ) → c ≡ 0 → hex label ≡ labelText c label
-unfolding labelText
-text-accepted zero label e = refl
-text-accepted (suc c) label e = absurd (omega arith)
+pub text_accepted : (c : ℕ) (label : List ℕ) → c ≡ 0 → hex label ≡ label_text c label
+unfolding label_text
+text_accepted zero label e = refl
+text_accepted (suc c) label e = absurd (omega arith)
 
 -- a refused one `-`
-pub text-refused : (c : ℕ) (label : List ℕ) → (c ≡ 0 → ⊥) → 45 ∷ [] ≡ labelText c label
-unfolding labelText
-text-refused zero label e = absurd (e refl)
-text-refused (suc c) label e = refl
+pub text_refused : (c : ℕ) (label : List ℕ) → (c ≡ 0 → ⊥) → 45 ∷ [] ≡ label_text c label
+unfolding label_text
+text_refused zero label e = absurd (e refl)
+text_refused (suc c) label e = refl
 
 -- at the end of the input the last line is the end
-pub last-ended : (n : ℕ) {b : Bool} → b ≡ true → endLine (n - 1) ≡ lastLine n b
-unfolding lastLine
-last-ended n e = rw e
+pub last_ended : (n : ℕ) {b : Bool} → b ≡ true → end_line (n - 1) ≡ last_line n b
+unfolding last_line
+last_ended n e = rw e
 
 -- at a broken record it is `frame`
-pub last-broken : (n : ℕ) {b : Bool} → b ≡ false → frameLine n ≡ lastLine n b
-unfolding lastLine
-last-broken n e = rw e
+pub last_broken : (n : ℕ) {b : Bool} → b ≡ false → frame_line n ≡ last_line n b
+unfolding last_line
+last_broken n e = rw e

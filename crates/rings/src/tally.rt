@@ -2,11 +2,11 @@
 // itself, in lists that have room for its sums, and its counts are added to those of the others.
 ghost use Rattle.std.specs.Prelude.{◌/◌, length};
 ghost use Rattle.sets.specs.Ring.{bits};
-ghost use Rattle.sets.specs.Lists.{setsIn, words};
+ghost use Rattle.sets.specs.Lists.{sets_in, words};
 ghost use Rattle.definitions.specs.Search.{picked};
 ghost use Rattle.combining.specs.Gibbs.{combined};
 ghost use Rattle.ordering.specs.Sizes.{Countable};
-ghost use Rattle.rings.specs.Tally.{mostInOne, Single, Alone, Both};
+ghost use Rattle.rings.specs.Tally.{most_in_one, Single, Alone, Both};
 
 use answers::{BASIS_WORDS, SIZES};
 use choosing::smallest_of;
@@ -21,8 +21,8 @@ pub(crate) fn count_alone(
     all: &mut [usize; SIZES],
     smallest: &mut [usize; SIZES],
 ) -> usize
-    requires { Single (setsIn rings.now) (bits members) × Countable all.old mostInOne × Countable smallest.old mostInOne }
-    ensures { Both (combined (picked (setsIn rings.now) (bits members))) all.old smallest.old all.new smallest.new result }
+    requires { Single (sets_in rings.now) (bits members) × Countable all.old most_in_one × Countable smallest.old most_in_one }
+    ensures { Both (combined (picked (sets_in rings.now) (bits members))) all.old smallest.old all.new smallest.new result }
 {
     let size = BondSet::at(rings, members.next(0)).size();
     all[size] += 1;
@@ -40,8 +40,8 @@ pub(crate) fn count_assembly(
     all: &mut [usize; SIZES],
     smallest: &mut [usize; SIZES],
 ) -> usize
-    requires { Alone (setsIn rings.now) (bits members) (length found.old / words) × Alone (setsIn rings.now) (bits members) (length ordered.old / words) × Countable all.old mostInOne × Countable smallest.old mostInOne }
-    ensures { Both (combined (picked (setsIn rings.now) (bits members))) all.old smallest.old all.new smallest.new result }
+    requires { Alone (sets_in rings.now) (bits members) (length found.old / words) × Alone (sets_in rings.now) (bits members) (length ordered.old / words) × Countable all.old most_in_one × Countable smallest.old most_in_one }
+    ensures { Both (combined (picked (sets_in rings.now) (bits members))) all.old smallest.old all.new smallest.new result }
 {
     let n = add_assembly(rings, members, ordered, found, 0);
     let top = count_sizes(found, n, all, 0);

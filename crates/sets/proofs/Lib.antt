@@ -4,7 +4,7 @@
 --     Members    common members, parts, the next member
 --     Upto       the members below a number; a loop by `next` goes up
 --     Machine    what a machine word does to the set that it holds; the bounds of sets of bonds and of basis rings
---     Lists      lists of sets as flat lists of words, for any number of words a set; then of `setsIn`, for the crates above
+--     Lists      lists of sets as flat lists of words, for any number of words a set; then of `sets_in`, for the crates above
 --     OneWord    a set in one word, as the functions need it: with the kinds and the sidecar's step, what knows that it is one
 pub mod Laws
 pub mod Size

@@ -29,8 +29,8 @@ pub apart : (s t : ℕ) → meet s t ≡ false → bit_and s t ≡ 0
 apart s t e = eqb-true (bit_and s t) 0 (not-false _ e)
 
 -- two sets with a common member meet
-pub meet-of : (s t k : ℕ) → has s k ≡ true → has t k ≡ true → meet s t ≡ true
-meet-of s t k p q = go (meet s t) refl
+pub meet_of : (s t k : ℕ) → has s k ≡ true → has t k ≡ true → meet s t ≡ true
+meet_of s t k p q = go (meet s t) refl
   where
     clash : meet s t ≡ false → ⊥
     clash e = true≢false (sym ((and-eq-true_iff (has s k) (has t k)).1 (p, q)) ∙ sym (has-and s t k) ∙ ap (λ (x : ℕ). has x k) (apart s t e) ∙ has-zero k)
@@ -47,8 +47,8 @@ sub_refl s k h = h
 pub sub_trans : (s t u : ℕ) → Sub s t → Sub t u → Sub s u
 sub_trans s t u f g k h = g k (f k h)
 
-pub sub-antisym : (s t : ℕ) → Sub s t → Sub t s → s ≡ t
-sub-antisym s t f g = ext s t (λ k. go (has s k) (has t k) (f k) (g k))
+pub sub_antisym : (s t : ℕ) → Sub s t → Sub t s → s ≡ t
+sub_antisym s t f g = ext s t (λ k. go (has s k) (has t k) (f k) (g k))
   where
     go : (x y : Bool) → (x ≡ true → y ≡ true) → (y ≡ true → x ≡ true) → x ≡ y
     go true y f g = sym (f refl)
@@ -57,8 +57,8 @@ sub-antisym s t f g = ext s t (λ k. go (has s k) (has t k) (f k) (g k))
 
 -- ---- the next member is one
 
-pub next-unique : (m s from r q : ℕ) → IsNext m s from r → IsNext m s from q → r ≡ q
-next-unique m s from r q a b = le_antisymm (no_less q r b a) (no_less r q a b)
+pub next_unique : (m s from r q : ℕ) → IsNext m s from r → IsNext m s from q → r ≡ q
+next_unique m s from r q a b = le_antisymm (no_less q r b a) (no_less r q a b)
   where
     no_less : (r q : ℕ) → IsNext m s from r → IsNext m s from q → q ≤ r
     no_less r q a b =

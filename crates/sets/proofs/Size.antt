@@ -18,8 +18,8 @@ unfolding ones
 size-zero = refl
 
 -- the lowest digit apart
-size-digit : (q r : ℕ) → r < 2 → size (q * 2 + r) ≡ size q + r
-size-digit q r h = ones_step (q * 2 + r) ∙ ap₂ (λ (x y : ℕ). x + ones y) (digits_mod q h) (digits_div q h) ∙ omega arith
+size_digit : (q r : ℕ) → r < 2 → size (q * 2 + r) ≡ size q + r
+size_digit q r h = ones_step (q * 2 + r) ∙ ap₂ (λ (x y : ℕ). x + ones y) (digits_mod q h) (digits_div q h) ∙ omega arith
 
 pub size_none : (s : ℕ) → size s ≡ 0 → s ≡ 0
 size_none = bin_ind (λ (s : ℕ). size s ≡ 0 → s ≡ 0) (λ h. refl) (λ s ih h. omega (arith, ones_step s, ih (omega (arith, ones_step s))))
@@ -35,7 +35,7 @@ size-sum =
     (λ b. omega (arith, size-zero))
     (λ a ih b.
     let d = digits (a % 2) (b % 2) (mod-lt a (lit< tt)) (mod-lt b (lit< tt)) in
-    omega (arith, ap size (xor_step a b) ∙ size-digit _ _ d.0, ap size (and_step a b) ∙ size-digit _ _ d.1, d.2, ih (b / 2), ones_step a, ones_step b))
+    omega (arith, ap size (xor_step a b) ∙ size_digit _ _ d.0, ap size (and_step a b) ∙ size_digit _ _ d.1, d.2, ih (b / 2), ones_step a, ones_step b))
 
 pub size-pow : (k : ℕ) → size (2 ^ k) ≡ 1
 unfolding ones
@@ -43,8 +43,8 @@ size-pow k = ap size (let e : 2 ^ k ≡ 1 * 2 ^ k + 0 = omega arith in e) ∙ on
 
 -- ---- sets that share nothing
 
-pub size-disjoint : (a b : ℕ) → bit_and a b ≡ 0 → size (bit_or a b) ≡ size a + size b
-size-disjoint a b e =
+pub size_disjoint : (a b : ℕ) → bit_and a b ≡ 0 → size (bit_or a b) ≡ size a + size b
+size_disjoint a b e =
     omega (arith, ap size (or_disjoint a b e ∙ sym (xor_disjoint a b e)), size-sum a b, ap size e, size-zero)
 
 -- ---- parts of a set
@@ -65,11 +65,11 @@ and-sub s t e k h = go (has s k) h (sym (has-and s t k) ∙ ap (λ (x : ℕ). ha
     go false p q = absurd (true≢false (sym p))
 
 -- so the test `sub` decides it
-pub sub-test : (s t : ℕ) → Sub s t → sub s t ≡ true
-sub-test s t h = eq-eqb (bit_and s t) s (sub-and s t h)
+pub sub_test : (s t : ℕ) → Sub s t → sub s t ≡ true
+sub_test s t h = eq-eqb (bit_and s t) s (sub-and s t h)
 
-pub test-sub : (s t : ℕ) → sub s t ≡ true → Sub s t
-test-sub s t e = and-sub s t (eqb-true (bit_and s t) s e)
+pub test_sub : (s t : ℕ) → sub s t ≡ true → Sub s t
+test_sub s t e = and-sub s t (eqb-true (bit_and s t) s e)
 
 -- what is left of t beside its part s
 pub size-rest : (s t : ℕ) → Sub s t → size s + size (bit_xor s t) ≡ size t
@@ -96,7 +96,7 @@ and-pow-none s k h = empty _ (λ j. has-and s (2 ^ k) j ∙ ap (λ (x : Bool). h
 
 pub size-with : (s k : ℕ) → has s k ≡ false → size (with s k) ≡ size s + 1
 unfolding with
-size-with s k h = omega (arith, size-disjoint s (2 ^ k) (and-pow-none s k h), size-pow k)
+size-with s k h = omega (arith, size_disjoint s (2 ^ k) (and-pow-none s k h), size-pow k)
 
 pub without-same : (s k : ℕ) → has s k ≡ false → without s k ≡ s
 unfolding without

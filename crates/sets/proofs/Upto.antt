@@ -20,13 +20,13 @@ unfolding upto
 upto_all s m h = mod-eq_of_lt h
 
 -- so many they are at most
-pub size-upto-le : (s m : ℕ) → size (upto s m) ≤ m
+pub size_upto_le : (s m : ℕ) → size (upto s m) ≤ m
 unfolding upto
-size-upto-le s m = ones-le m (s % 2 ^ m) (mod-lt s (pow_pos m))
+size_upto_le s m = ones-le m (s % 2 ^ m) (mod-lt s (pow_pos m))
 
 -- the next member from k + 1 on is above k
-pub next-rises : (m s k q : ℕ) → k < m → IsNext m s (k + 1) q → k < q
-next-rises m s k q h n = go (ltb q m) refl
+pub next_rises : (m s k q : ℕ) → k < m → IsNext m s (k + 1) q → k < q
+next_rises m s k q h n = go (ltb q m) refl
   where
     go : (t : Bool) → ltb q m ≡ t → k < q
     go true e = omega (arith, n.least (ltb-true q m e))

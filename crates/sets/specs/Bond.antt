@@ -7,8 +7,8 @@ abbrev pub bits : BondSet → ℕ
 bits s = s.0
 
 -- the set with no bond
-abbrev pub noBonds : BondSet
-noBonds = record { 0 = 0 }
+abbrev pub no_bonds : BondSet
+no_bonds = record { 0 = 0 }
 
 -- the members are below this: LAST is one less
 abbrev pub room : ℕ

@@ -16,8 +16,8 @@ groups n zero ws = []
 groups n (suc k) ws = value_of (take n ws) ∷ groups n k (drop n ws)
 
 -- the sets in a list of words; words at the end that are too few for a set are passed over
-unfoldable pub setsIn : List ℕ → List ℕ
-setsIn ws = groups words (length ws / words) ws
+unfoldable pub sets_in : List ℕ → List ℕ
+sets_in ws = groups words (length ws / words) ws
 
 -- how many words k sets take
 unfoldable pub words_of : ℕ → ℕ
@@ -29,16 +29,16 @@ spread zero s = []
 spread (suc n) s = s % 2 ^ 64 ∷ spread n (s / 2 ^ 64)
 
 -- each number of a list in n words
-unfoldable pub spreadAll : ℕ → List ℕ → List ℕ
-spreadAll n [] = []
-spreadAll n (s ∷ l) = spread n s ++ spreadAll n l
+unfoldable pub spread_all : ℕ → List ℕ → List ℕ
+spread_all n [] = []
+spread_all n (s ∷ l) = spread n s ++ spread_all n l
 
 -- the words of a list of sets, one set after another
 unfoldable pub in_words : List ℕ → List ℕ
-in_words l = spreadAll words l
+in_words l = spread_all words l
 
 -- `after` is `before` with the set s put at place i: as sets, and word by word
 pub record Put (before : List ℕ) (i s : ℕ) (after : List ℕ) : Type 0 where
-  pub sets : setsIn after ≡ set (setsIn before) i s
+  pub sets : sets_in after ≡ set (sets_in before) i s
   pub long : length after ≡ length before
   pub list : after ≡ take (words_of i) before ++ (in_words (s ∷ []) ++ drop (words_of (suc i)) before)

@@ -7,8 +7,8 @@ abbrev pub bits : RingSet → ℕ
 bits s = s.0
 
 -- the set with no basis ring
-abbrev pub noRings : RingSet
-noRings = record { 0 = 0 }
+abbrev pub no_rings : RingSet
+no_rings = record { 0 = 0 }
 
 -- the members are below this: LAST is one less
 abbrev pub room : ℕ

@@ -1,10 +1,10 @@
 // The sidecar of a table: one field with the reduced basis.
 ghost use Rattle.std.specs.Prelude.{◌≡◌, ◌+◌, ◌≤◌, length, take};
 ghost use Rattle.sets.specs.Bond.{bits};
-ghost use Rattle.sets.specs.Lists.{setsIn};
+ghost use Rattle.sets.specs.Lists.{sets_in};
 ghost use Rattle.definitions.specs.Table.{table, refusal};
-ghost use Rattle.definitions.specs.Label.{bytes_of, bytesOfAll, field, sidecarTag, setBytes, sidecarOf};
-ghost use Rattle.definitions.specs.Answer.{outcomeOf, written};
+ghost use Rattle.definitions.specs.Label.{bytes_of, bytes_of_all, field, sidecar_tag, set_bytes, sidecar_of};
+ghost use Rattle.definitions.specs.Answer.{outcome_of, written};
 ghost use Rattle.lent.specs.Appended.{Room, Appended};
 
 use answers::{Answer, ROOM};
@@ -19,8 +19,8 @@ const SET: usize = 8;
 
 // A set, high byte first.
 fn put_set(set: BondSet, out: &mut [u8], at: usize) -> usize
-    requires { at + setBytes ≤ length out.old }
-    ensures { Appended out.old at (bytes_of setBytes (bits set)) out.new result }
+    requires { at + set_bytes ≤ length out.old }
+    ensures { Appended out.old at (bytes_of set_bytes (bits set)) out.new result }
 {
     let words = set.words();
     put_number(SET, words[0], out, at)
@@ -28,8 +28,8 @@ fn put_set(set: BondSet, out: &mut [u8], at: usize) -> usize
 
 // The first n sets of a list.
 fn put_sets(sets: &[u64], n: usize, out: &mut [u8], at: usize) -> usize
-    requires { (n ≤ length (setsIn sets.now)) × Room (bytesOfAll setBytes (take n (setsIn sets.now))) out.old at }
-    ensures { Appended out.old at (bytesOfAll setBytes (take n (setsIn sets.now))) out.new result }
+    requires { (n ≤ length (sets_in sets.now)) × Room (bytes_of_all set_bytes (take n (sets_in sets.now))) out.old at }
+    ensures { Appended out.old at (bytes_of_all set_bytes (take n (sets_in sets.now))) out.new result }
 {
     let mut next: usize = at;
     let mut i: usize = 0;
@@ -42,8 +42,8 @@ fn put_sets(sets: &[u64], n: usize, out: &mut [u8], at: usize) -> usize
 
 // The sidecar of the first n sets of a list.
 fn write_sidecar(sets: &[u64], n: usize, out: &mut [u8]) -> Answer
-    requires { n ≤ length (setsIn sets.now) }
-    ensures { outcomeOf result.number result.count out.new ≡ written 0 (field sidecarTag (bytesOfAll setBytes (take n (setsIn sets.now)))) out.old }
+    requires { n ≤ length (sets_in sets.now) }
+    ensures { outcome_of result.number result.count out.new ≡ written 0 (field sidecar_tag (bytes_of_all set_bytes (take n (sets_in sets.now)))) out.old }
 {
     let count = HEAD + SET * n;
     if out.len() < count {
@@ -59,7 +59,7 @@ fn write_sidecar(sets: &[u64], n: usize, out: &mut [u8]) -> Answer
 
 // The sidecar: one field with the reduced basis.
 pub fn sidecar(atoms: u64, bonds: &[u8], out: &mut [u8]) -> Answer
-    ensures answer { outcomeOf result.number result.count out.new ≡ written (refusal (table atoms bonds.now)) (sidecarOf (table atoms bonds.now)) out.old }
+    ensures answer { outcome_of result.number result.count out.new ≡ written (refusal (table atoms bonds.now)) (sidecar_of (table atoms bonds.now)) out.old }
     ensures read { bonds.now ≡ bonds.now }
 {
     let found = reduced::reduce(atoms, bonds);

@@ -11,7 +11,7 @@ use native.Mathlib.Nat.{le_antisymm}
 use native.Mathlib.Omega.{arith}
 use lib.ListN.{length}
 use lib.Bits.{bit_xor}
-use Rattle.spans.proofs.Spans.{Span, none, skip, add, Indep, empty, more, each, span-zero, span-in, span-eq, span-sum, span-trans, xor-cross, xor-undo}
+use Rattle.spans.proofs.Spans.{Span, none, skip, add, Indep, empty, more, each, span_zero, span_in, span_eq, span_sum, span_trans, xor_cross, xor_undo}
 
 -- ws with the first set v eliminated by a pivot, which is dropped
 record Pivoted (v : ℕ) (vs ws : List ℕ) : Type 0 where
@@ -38,26 +38,26 @@ reduce v vs (w ∷ ws) h (more n d) = step (reduce v vs ws (λ x i. h x (there i
           of = skip p.of;
           low = each (Span vs) s p.low;
           from = each (Span (w ∷ ws)) q (λ y i. skip (p.from y i));
-          indep = more (λ t. n (back (span-trans p.from t))) p.indep;
+          indep = more (λ t. n (back (span_trans p.from t))) p.indep;
           long = ap suc p.long;
         }
 
     step : ((x : ℕ) → In x ws → Span vs x) ⊎ Pivoted v vs ws → Span (v ∷ vs) w → ((x : ℕ) → In x (w ∷ ws) → Span vs x) ⊎ Pivoted v vs (w ∷ ws)
     step (inl all) (skip s) = inl (each (Span vs) s all)
     step (inl all) (add s) =
-        inr (record { pivot = w; list = ws; needs = s; of = span-in (here refl); low = all; from = λ x i. span-in (there i); indep = d; long = refl })
-    step (inr p) (skip s) = inr (push p w s (λ t. t) (span-in (here refl)))
+        inr (record { pivot = w; list = ws; needs = s; of = span_in (here refl); low = all; from = λ x i. span_in (there i); indep = d; long = refl })
+    step (inr p) (skip s) = inr (push p w s (λ t. t) (span_in (here refl)))
     step (inr p) (add s) =
         inr
         (push p (bit_xor w p.pivot)
-        (span-eq (xor-cross v w p.pivot) (span-sum s p.needs))
-        (λ t. span-eq (xor-undo w p.pivot) (span-sum t p.of))
-        (span-sum (span-in (here refl)) (skip p.of)))
+        (span_eq (xor_cross v w p.pivot) (span_sum s p.needs))
+        (λ t. span_eq (xor_undo w p.pivot) (span_sum t p.of))
+        (span_sum (span_in (here refl)) (skip p.of)))
 
 -- an independent list in the span of vs is no longer than vs
 pub exchange : (vs ws : List ℕ) → ((x : ℕ) → In x ws → Span vs x) → Indep ws → length ws ≤ length vs
 exchange [] [] h d = omega arith
-exchange [] (w ∷ ws) h (more n d) = absurd (elim (h w (here refl)) [ none e ↦ n (span-eq (sym e) (span-zero ws)) ])
+exchange [] (w ∷ ws) h (more n d) = absurd (elim (h w (here refl)) [ none e ↦ n (span_eq (sym e) (span_zero ws)) ])
 exchange (v ∷ vs) ws h d =
     elim (reduce v vs ws h d) [
       | inl all ↦ (let l = exchange vs ws all d in omega arith)

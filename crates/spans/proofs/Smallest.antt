@@ -13,29 +13,29 @@ use Rattle.definitions.specs.Search.{total}
 use Rattle.definitions.specs.AllRings.{before}
 use Rattle.definitions.specs.Label.{occurs}
 use Rattle.definitions.specs.Smallest.{SumOf, taking}
-use Rattle.definitions.proofs.Tests.{clashes, not-failed}
-use Rattle.definitions.proofs.Sorting.{Sorted, sorted_none, sorted_more, SortedWeak, weak-none, weak_more, sorted-weak, before-order, before-reads}
-use Rattle.spans.proofs.Choice.{NoneOfOthers, others-iff-indep, sum→span, span→sum}
-use Rattle.spans.proofs.Taking.{taking-in, taking-indep, taking-holds}
-use Rattle.spans.proofs.Lightest.{Rising, Basis, basis-of, basis-length, taking-least, lightest-occurs}
+use Rattle.definitions.proofs.Tests.{clashes, not_failed}
+use Rattle.definitions.proofs.Sorting.{Sorted, sorted_none, sorted_more, SortedWeak, weak_none, weak_more, sorted_weak, before_order, before_reads}
+use Rattle.spans.proofs.Choice.{NoneOfOthers, others_iff_indep, sum→span, span→sum}
+use Rattle.spans.proofs.Taking.{taking_in, taking_indep, taking_holds}
+use Rattle.spans.proofs.Lightest.{Rising, Basis, basis_of_lem, basis-length, taking-least, lightest_occurs}
 
 -- a list in the order of all rings is in rising size, with repeats
-pub weak-rising : {xs : List ℕ} → SortedWeak before xs → Rising size xs
-weak-rising weak-none = sorted_none
-weak-rising (weak_more {x} h s) =
+pub weak_rising : {xs : List ℕ} → SortedWeak before xs → Rising size xs
+weak_rising weak_none = sorted_none
+weak_rising (weak_more {x} h s) =
     sorted_more
-    (λ y i. not-failed (leb (size x) (size y)) (λ e. clashes ((before-reads y x).1 (inl (leb-false (size x) (size y) e))) (h y i)))
-    (weak-rising s)
+    (λ y i. not_failed (leb (size x) (size y)) (λ e. clashes ((before_reads y x).1 (inl (leb-false (size x) (size y) e))) (h y i)))
+    (weak_rising s)
 
 -- and without
 pub before-rising : {xs : List ℕ} → Sorted before xs → Rising size xs
-before-rising s = weak-rising (sorted-weak before-order s)
+before-rising s = weak_rising (sorted_weak before_order s)
 
 -- bs is a basis made of sets of xs
 pub record SpanBasis (xs bs : List ℕ) : Type 0 where
   pub members : (b : ℕ) → In b bs → In b xs
-  pub none-of-others : NoneOfOthers bs
-  pub span-all : (x : ℕ) → In x xs → SumOf bs x
+  pub none_of_others : NoneOfOthers bs
+  pub span_all : (x : ℕ) → In x xs → SumOf bs x
 
 -- and no other has a smaller total of sizes
 pub record SmallestOf (xs bs : List ℕ) : Type 0 where
@@ -43,34 +43,34 @@ pub record SmallestOf (xs bs : List ℕ) : Type 0 where
   pub least : (cs : List ℕ) → SpanBasis xs cs → total (map size bs) ≤ total (map size cs)
 
 -- no set taken is a sum of others
-pub taken-none-of-others : (xs : List ℕ) → NoneOfOthers (taking [] xs)
-taken-none-of-others xs = (others-iff-indep (taking [] xs)).1 (taking-indep xs)
+pub taken_none_of_others : (xs : List ℕ) → NoneOfOthers (taking [] xs)
+taken_none_of_others xs = (others_iff_indep (taking [] xs)).1 (taking_indep xs)
 
 -- each set of the list is a sum of sets taken
-pub taken-span-all : (xs : List ℕ) (x : ℕ) → In x xs → SumOf (taking [] xs) x
-taken-span-all xs x i = span→sum (taking-holds xs x i)
+pub taken_span_all : (xs : List ℕ) (x : ℕ) → In x xs → SumOf (taking [] xs) x
+taken_span_all xs x i = span→sum (taking_holds xs x i)
 
 -- what is taken is a basis
-pub taken-basis : (xs : List ℕ) → SpanBasis xs (taking [] xs)
-taken-basis xs = record { members = taking-in xs; none-of-others = taken-none-of-others xs; span-all = taken-span-all xs }
+pub taken_basis : (xs : List ℕ) → SpanBasis xs (taking [] xs)
+taken_basis xs = record { members = taking_in xs; none_of_others = taken_none_of_others xs; span_all = taken_span_all xs }
 
 -- it is a basis in the sense of spans
-as-basis : {xs bs : List ℕ} → SpanBasis xs bs → Basis size xs bs
-as-basis {xs} {bs} b = basis-of size xs bs ((others-iff-indep bs).0 b.none-of-others) b.members (λ x i. sum→span (b.span-all x i))
+as_basis : {xs bs : List ℕ} → SpanBasis xs bs → Basis size xs bs
+as_basis {xs} {bs} b = basis_of_lem size xs bs ((others_iff_indep bs).0 b.none_of_others) b.members (λ x i. sum→span (b.span_all x i))
 
 -- every basis has as many sets
-pub taken-length : (xs bs : List ℕ) → SpanBasis xs bs → length bs ≡ length (taking [] xs)
-taken-length xs bs b = basis-length size xs bs (as-basis b)
+pub taken_length : (xs bs : List ℕ) → SpanBasis xs bs → length bs ≡ length (taking [] xs)
+taken_length xs bs b = basis-length size xs bs (as_basis b)
 
 module _ (xs : List ℕ) (rising : Rising size xs) where
   -- no basis has a smaller total of sizes
-  pub taken-least-total : (bs : List ℕ) → SpanBasis xs bs → total (map size (taking [] xs)) ≤ total (map size bs)
-  taken-least-total bs b = taking-least size xs rising bs (as-basis b)
+  pub taken_least-total : (bs : List ℕ) → SpanBasis xs bs → total (map size (taking [] xs)) ≤ total (map size bs)
+  taken_least-total bs b = taking-least size xs rising bs (as_basis b)
 
   -- every smallest basis has as many sets of each size
-  pub taken-sizes-unique : (bs : List ℕ) → SmallestOf xs bs → (t : ℕ) → occurs t (map size bs) ≡ occurs t (map size (taking [] xs))
-  taken-sizes-unique bs b t = sym (lightest-occurs size xs rising bs (as-basis b.basis) (b.least (taking [] xs) (taken-basis xs)) t)
+  pub taken_sizes_unique : (bs : List ℕ) → SmallestOf xs bs → (t : ℕ) → occurs t (map size bs) ≡ occurs t (map size (taking [] xs))
+  taken_sizes_unique bs b t = sym (lightest_occurs size xs rising bs (as_basis b.basis) (b.least (taking [] xs) (taken_basis xs)) t)
 
   -- so any two smallest bases have as many sets of each size
-  pub smallest-sizes-agree : (bs cs : List ℕ) → SmallestOf xs bs → SmallestOf xs cs → (t : ℕ) → occurs t (map size bs) ≡ occurs t (map size cs)
-  smallest-sizes-agree bs cs b c t = taken-sizes-unique bs b t ∙ sym (taken-sizes-unique cs c t)
+  pub smallest_sizes_agree : (bs cs : List ℕ) → SmallestOf xs bs → SmallestOf xs cs → (t : ℕ) → occurs t (map size bs) ≡ occurs t (map size cs)
+  smallest_sizes_agree bs cs b c t = taken_sizes_unique bs b t ∙ sym (taken_sizes_unique cs c t)

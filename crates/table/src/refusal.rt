@@ -2,7 +2,7 @@
 ghost use Rattle.std.specs.Prelude.{◌≡◌, false, ℕ, ◌/◌, ◌<◌, length};
 ghost use Rattle.definitions.specs.Search.{some?};
 ghost use Rattle.definitions.specs.Table as spec;
-ghost use Rattle.table.specs.Ends.{bondsAlone, Fitting};
+ghost use Rattle.table.specs.Ends.{bonds_alone, Fitting};
 ghost use Rattle.table.specs.Rows.{Rowed, TableTested};
 
 use super::ends::ends_of;
@@ -12,7 +12,7 @@ use sets::BondSet;
 // Has bond k an end that is the atom count or higher?
 fn bad_end(atoms: u64, bonds: &[u8], k: usize) -> bool
     requires { k < length bonds.now / 2 }
-    ensures { result ≡ spec.badEnd? (spec.table atoms bonds.now) k }
+    ensures { result ≡ spec.bad_end? (spec.table atoms bonds.now) k }
 {
     (atoms <= bonds[2 * k] as u64) | (atoms <= bonds[2 * k + 1] as u64)
 }
@@ -20,7 +20,7 @@ fn bad_end(atoms: u64, bonds: &[u8], k: usize) -> bool
 // Are the two ends of bond k one atom?
 fn self_bond(bonds: &[u8], k: usize) -> bool
     requires { k < length bonds.now / 2 }
-    ensures { result ≡ spec.selfBond? (bondsAlone bonds.now) k }
+    ensures { result ≡ spec.self_bond? (bonds_alone bonds.now) k }
 {
     let ends = ends_of(bonds, k);
     ends.tail == ends.head
@@ -35,8 +35,8 @@ struct WrongEnds {
 
 // Both are told in one pass over all bonds.
 fn wrong_ends(atoms: u64, bonds: &[u8]) -> WrongEnds
-    ensures outside { result.outside ≡ some? (length bonds.now / 2) (spec.badEnd? (spec.table atoms bonds.now)) }
-    ensures same { result.same ≡ some? (length bonds.now / 2) (spec.selfBond? (bondsAlone bonds.now)) }
+    ensures outside { result.outside ≡ some? (length bonds.now / 2) (spec.bad_end? (spec.table atoms bonds.now)) }
+    ensures same { result.same ≡ some? (length bonds.now / 2) (spec.self_bond? (bonds_alone bonds.now)) }
 {
     let mut outside = false;
     let mut same = false;
@@ -52,8 +52,8 @@ fn wrong_ends(atoms: u64, bonds: &[u8]) -> WrongEnds
 // Fills the rows, empty so far, bond by bond, and tells whether some pair of atoms is bonded twice: a bond whose two atoms are bonded already
 // finds that bond in the rows of both. No bond joins an atom to itself here. The rows are by all bonds where no pair is.
 fn fill_rows(bonds: &[u8], rows: &mut [u64; ATOM_WORDS]) -> bool
-    requires { Fitting bonds.now × ((k : ℕ) → k < length bonds.now / 2 → spec.selfBond? (bondsAlone bonds.now) k ≡ false) × Rowed bonds.now 0 rows.old }
-    ensures twice { result ≡ some? (length bonds.now / 2) (spec.seenBefore? (bondsAlone bonds.now)) }
+    requires { Fitting bonds.now × ((k : ℕ) → k < length bonds.now / 2 → spec.self_bond? (bonds_alone bonds.now) k ≡ false) × Rowed bonds.now 0 rows.old }
+    ensures twice { result ≡ some? (length bonds.now / 2) (spec.seen_before? (bonds_alone bonds.now)) }
     ensures filled { result ≡ false → Rowed bonds.now (length bonds.now / 2) rows.new }
 {
     let mut k: usize = 0;

@@ -12,27 +12,27 @@ use lib.Seq.{sets-eq, take_at, length-sets}
 use Rattle.sets.specs.Bits.{size}
 use Rattle.definitions.specs.Table.{Table, table, refusal, NOTRING, ROOM}
 use Rattle.definitions.specs.Ring.{degree, ring?}
-use Rattle.definitions.specs.Walk.{otherBond, onward, walkFrom, walkStart, walk_of, walkAtoms, walkBonds}
-use Rattle.definitions.specs.Answer.{Outcome, outcomeOf, over, refusalOfWalk, writtenBoth}
-use Rattle.definitions.proofs.Tests.{not-passed, clashes, same_test, Tells, true_of, false_of, tells-ltb, tells-or}
-use Rattle.definitions.proofs.Refusals.{tells-rooms, walk_kept, walk-free}
-use Rattle.definitions.proofs.Rings.{ring-test}
-use Rattle.answers.proofs.Answers.{outcome-refused, outcome-short, outcome-given}
-use Rattle.table.specs.Ends.{bondsAlone}
+use Rattle.definitions.specs.Walk.{other_bond, onward, walk_from, walk_start, walk_of, walk_atoms, walk_bonds}
+use Rattle.definitions.specs.Answer.{Outcome, outcome_of, over, refusal_of_walk, written_both}
+use Rattle.definitions.proofs.Tests.{not_passed, clashes, same_test, Tells, true_of, false_of, tells_ltb, tells_or}
+use Rattle.definitions.proofs.Refusals.{tells_rooms, walk_kept, walk-free}
+use Rattle.definitions.proofs.Rings.{ring_test}
+use Rattle.answers.proofs.Answers.{outcome-refused, outcome_short, outcome-given}
+use Rattle.table.specs.Ends.{bonds_alone}
 use Rattle.walking.specs.Closing.{closes?, walks?}
 use Rattle.walking.proofs.Steps.{atoms-length, bonds-length}
-use Rattle.walking.proofs.Rings.{ring-by-walking}
+use Rattle.walking.proofs.Rings.{ring-by_walking}
 use Rattle.walk.specs.Going.{Stored, Walked}
 
 -- ---- what was noted
 
 -- a list in which items are stored keeps its length
-pub stored-length : {l items l' : List ℕ} {i : ℕ} → Stored l i items l' → length l ≡ length l'
-stored-length {l} {items} {i = i} h = sym (ap length h.list ∙ length-sets l i items)
+pub stored_length : {l items l' : List ℕ} {i : ℕ} → Stored l i items l' → length l ≡ length l'
+stored_length {l} {items} {i = i} h = sym (ap length h.list ∙ length-sets l i items)
 
 -- items that are stored at its start are the first, and so are what is copied from there
-stored-copied : {l items l' : List ℕ} {n : ℕ} (lent : List ℕ) {out : List ℕ} → Stored l 0 items l' → length items ≡ n → n ≤ length l → out ≡ over (take n l') lent → out ≡ over items lent
-stored-copied {l} {items} {n = n} lent h all few e =
+stored_copied : {l items l' : List ℕ} {n : ℕ} (lent : List ℕ) {out : List ℕ} → Stored l 0 items l' → length items ≡ n → n ≤ length l → out ≡ over (take n l') lent → out ≡ over items lent
+stored_copied {l} {items} {n = n} lent h all few e =
     e
     ∙ ap (λ (first : List ℕ). over first lent)
     (ap (take n) (h.list ∙ sets-eq items l 0 (omega arith)) ∙ take_at items (drop (0 + length items) l) n all)
@@ -45,101 +45,101 @@ short? lent n = ltb (length lent.0) n || ltb (length lent.1) n
 
 -- as a sentence
 shorts : (lent : List ℕ × List ℕ) (n : ℕ) → Tells (short? lent n) ((length lent.0 < n) ⊎ (length lent.1 < n)) ((n ≤ length lent.0) × (n ≤ length lent.1))
-shorts lent n = tells-or (tells-ltb (length lent.0) n) (tells-ltb (length lent.1) n)
+shorts lent n = tells_or (tells_ltb (length lent.0) n) (tells_ltb (length lent.1) n)
 
 module _ (M : Table) (s : ℕ) (lent : List ℕ × List ℕ) where
   -- c is told, or where it is 0 the lists of the walk are written
   abbrev answer : ℕ → Outcome (List ℕ × List ℕ)
-  answer c = writtenBoth c (walkAtoms M s, walkBonds M s) lent
+  answer c = written_both c (walk_atoms M s, walk_bonds M s) lent
 
   -- a number above 0 is told with nothing written
-  both-refused : {r c : ℕ} → r ≡ c → 0 < r → outcomeOf r 0 lent ≡ answer c
-  unfolding writtenBoth
-  both-refused e h = outcome-refused e _ _ _ lent h
+  both_refused : {r c : ℕ} → r ≡ c → 0 < r → outcome_of r 0 lent ≡ answer c
+  unfolding written_both
+  both_refused e h = outcome-refused e _ _ _ lent h
 
   module _ {n c : ℕ} (all : n ≡ size s) (none : 0 ≡ c) where
     -- a list is too short
-    both-short : short? lent n ≡ true → outcomeOf ROOM 0 lent ≡ answer c
-    unfolding writtenBoth
-    both-short e =
-        outcome-short none _ _ _ lent (omega arith)
-        (not-passed _ (λ r.
-        let (h, k) = (tells-rooms (walkAtoms M s) (walkBonds M s) lent.0 lent.1).yes-says r in
+    both_short : short? lent n ≡ true → outcome_of ROOM 0 lent ≡ answer c
+    unfolding written_both
+    both_short e =
+        outcome_short none _ _ _ lent (omega arith)
+        (not_passed _ (λ r.
+        let (h, k) = (tells_rooms (walk_atoms M s) (walk_bonds M s) lent.0 lent.1).yes_says r in
         clashes e (false_of (shorts lent n) (omega (arith, atoms-length M s), omega (arith, bonds-length M s)))))
 
     -- both are written
-    both-given : {l m : List ℕ} → short? lent n ≡ false → l ≡ over (walkAtoms M s) lent.0 → m ≡ over (walkBonds M s) lent.1 → outcomeOf 0 n (l, m) ≡ answer c
-    unfolding writtenBoth
-    both-given e f g =
+    both_given : {l m : List ℕ} → short? lent n ≡ false → l ≡ over (walk_atoms M s) lent.0 → m ≡ over (walk_bonds M s) lent.1 → outcome_of 0 n (l, m) ≡ answer c
+    unfolding written_both
+    both_given e f g =
         let (h, k) = (shorts lent n).no_says e in
         outcome-given none _ _ _ lent (omega arith)
-        (true_of (tells-rooms (walkAtoms M s) (walkBonds M s) lent.0 lent.1) (omega (arith, atoms-length M s), omega (arith, bonds-length M s)))
+        (true_of (tells_rooms (walk_atoms M s) (walk_bonds M s) lent.0 lent.1) (omega (arith, atoms-length M s), omega (arith, bonds-length M s)))
         (all ∙ sym (atoms-length M s)) (ap₂ (λ (a b : List ℕ). (a, b)) f g)
 
 -- where one does not come round that is told, and where one does, that a list is too short, or what was noted is copied
 module _ {bs : List ℕ} {s : ℕ} {r : Bool} {v v' c c' : List ℕ} (w : Walked bs s r v v' c c') (lent : List ℕ × List ℕ) where
   -- the number for a set of an accepted table
   abbrev number : ℕ
-  number = cond (walks? (bondsAlone bs) s) 0 NOTRING
+  number = cond (walks? (bonds_alone bs) s) 0 NOTRING
 
-  pub walked-refused : r ≡ false → outcomeOf NOTRING 0 lent ≡ answer (bondsAlone bs) s lent number
-  walked-refused e = both-refused (bondsAlone bs) s lent (ap (λ (b : Bool). cond b 0 NOTRING) (sym e ∙ w.told)) (omega arith)
+  pub walked_refused : r ≡ false → outcome_of NOTRING 0 lent ≡ answer (bonds_alone bs) s lent number
+  walked_refused e = both_refused (bonds_alone bs) s lent (ap (λ (b : Bool). cond b 0 NOTRING) (sym e ∙ w.told)) (omega arith)
 
   module _ (e : r ≡ true) {n : ℕ} (all : n ≡ size s) where
     -- nothing is refused
     free : 0 ≡ number
     free = ap (λ (b : Bool). cond b 0 NOTRING) (sym e ∙ w.told)
 
-    pub walked-short : short? lent n ≡ true → outcomeOf ROOM 0 lent ≡ answer (bondsAlone bs) s lent number
-    walked-short h = both-short (bondsAlone bs) s lent all free h
+    pub walked_short : short? lent n ≡ true → outcome_of ROOM 0 lent ≡ answer (bonds_alone bs) s lent number
+    walked_short h = both_short (bonds_alone bs) s lent all free h
 
-    pub walked-given : {l m : List ℕ} → short? lent n ≡ false → n ≤ length v → n ≤ length c
-        → l ≡ over (take n v') lent.0 → m ≡ over (take n c') lent.1 → outcomeOf 0 n (l, m) ≡ answer (bondsAlone bs) s lent number
-    walked-given h few few' f g =
-        both-given (bondsAlone bs) s lent all free h
-        (stored-copied lent.0 (w.visited e) (atoms-length (bondsAlone bs) s ∙ sym all) few f)
-        (stored-copied lent.1 (w.crossed e) (bonds-length (bondsAlone bs) s ∙ sym all) few' g)
+    pub walked_given : {l m : List ℕ} → short? lent n ≡ false → n ≤ length v → n ≤ length c
+        → l ≡ over (take n v') lent.0 → m ≡ over (take n c') lent.1 → outcome_of 0 n (l, m) ≡ answer (bonds_alone bs) s lent number
+    walked_given h few few' f g =
+        both_given (bonds_alone bs) s lent all free h
+        (stored_copied lent.0 (w.visited e) (atoms-length (bonds_alone bs) s ∙ sym all) few f)
+        (stored_copied lent.1 (w.crossed e) (bonds-length (bonds_alone bs) s ∙ sym all) few' g)
 
 -- ---- only the bonds are asked
 
 module _ (x : ℕ) (bs : List ℕ) (s : ℕ) where
   -- by the test of a walk
-  closes-alone : (a n : ℕ) (p : ℕ × ℕ) → closes? (table x bs) s a n p ≡ closes? (bondsAlone bs) s a n p
-  unfolding closes? onward otherBond degree
-  closes-alone a zero p = refl
-  closes-alone a (suc n) p =
-      ap (λ (b : Bool). eqb (degree (bondsAlone bs) s (onward (bondsAlone bs) s p).0) 2 && cond (eqb (onward (bondsAlone bs) s p).0 a) (eqb n 0) b)
-      (closes-alone a n (onward (bondsAlone bs) s p))
+  closes_alone : (a n : ℕ) (p : ℕ × ℕ) → closes? (table x bs) s a n p ≡ closes? (bonds_alone bs) s a n p
+  unfolding closes? onward other_bond degree
+  closes_alone a zero p = refl
+  closes_alone a (suc n) p =
+      ap (λ (b : Bool). eqb (degree (bonds_alone bs) s (onward (bonds_alone bs) s p).0) 2 && cond (eqb (onward (bonds_alone bs) s p).0 a) (eqb n 0) b)
+      (closes_alone a n (onward (bonds_alone bs) s p))
 
   -- by the walk
-  from-alone : (n : ℕ) (p : ℕ × ℕ) → walkFrom (table x bs) s n p ≡ walkFrom (bondsAlone bs) s n p
-  unfolding walkFrom onward otherBond
-  from-alone zero p = refl
-  from-alone (suc n) p = ap (λ (l : List (ℕ × ℕ)). p ∷ l) (from-alone n (onward (bondsAlone bs) s p))
+  from_alone : (n : ℕ) (p : ℕ × ℕ) → walk_from (table x bs) s n p ≡ walk_from (bonds_alone bs) s n p
+  unfolding walk_from onward other_bond
+  from_alone zero p = refl
+  from_alone (suc n) p = ap (λ (l : List (ℕ × ℕ)). p ∷ l) (from_alone n (onward (bonds_alone bs) s p))
 
   -- so by its atoms and its bonds
-  atoms-alone : walkAtoms (bondsAlone bs) s ≡ walkAtoms (table x bs) s
-  unfolding walkAtoms walk_of walkStart
-  atoms-alone = ap (map (λ p. p.0)) (sym (from-alone (size s) (walkStart (bondsAlone bs) s)))
+  atoms_alone : walk_atoms (bonds_alone bs) s ≡ walk_atoms (table x bs) s
+  unfolding walk_atoms walk_of walk_start
+  atoms_alone = ap (map (λ p. p.0)) (sym (from_alone (size s) (walk_start (bonds_alone bs) s)))
 
-  bonds-alone : walkBonds (bondsAlone bs) s ≡ walkBonds (table x bs) s
-  unfolding walkBonds walk_of walkStart
-  bonds-alone = ap (map (λ p. p.1)) (sym (from-alone (size s) (walkStart (bondsAlone bs) s)))
+  bonds_alone_lem : walk_bonds (bonds_alone bs) s ≡ walk_bonds (table x bs) s
+  unfolding walk_bonds walk_of walk_start
+  bonds_alone_lem = ap (map (λ p. p.1)) (sym (from_alone (size s) (walk_start (bonds_alone bs) s)))
 
   -- one comes round exactly where the set is a ring
-  walks-ring : refusal (table x bs) ≡ 0 → walks? (bondsAlone bs) s ≡ ring? (table x bs) s
-  unfolding walks? walkStart
-  walks-ring e =
-      sym (closes-alone (walkStart (bondsAlone bs) s).0 (size s) (walkStart (bondsAlone bs) s))
+  walks_ring : refusal (table x bs) ≡ 0 → walks? (bonds_alone bs) s ≡ ring? (table x bs) s
+  unfolding walks? walk_start
+  walks_ring e =
+      sym (closes_alone (walk_start (bonds_alone bs) s).0 (size s) (walk_start (bonds_alone bs) s))
       ∙ same_test (walks? (table x bs) s) (ring? (table x bs) s)
-      (λ w. (ring-test (table x bs) s).1 ((ring-by-walking (table x bs) e s).0 w))
-      (λ r. (ring-by-walking (table x bs) e s).1 ((ring-test (table x bs) s).0 r))
+      (λ w. (ring_test (table x bs) s).1 ((ring-by_walking (table x bs) e s).0 w))
+      (λ r. (ring-by_walking (table x bs) e s).1 ((ring_test (table x bs) s).0 r))
 
   -- so of an accepted table the bytes alone are answered as the table
-  pub alone-answer : refusal (table x bs) ≡ 0 → (lent : List ℕ × List ℕ) {o : Outcome (List ℕ × List ℕ)}
-      → o ≡ answer (bondsAlone bs) s lent (cond (walks? (bondsAlone bs) s) 0 NOTRING) → o ≡ answer (table x bs) s lent (refusalOfWalk (table x bs) s)
-  alone-answer e lent h = h ∙ rw (walks-ring e, atoms-alone, bonds-alone, ← walk-free (table x bs) s e) refl
+  pub alone_answer : refusal (table x bs) ≡ 0 → (lent : List ℕ × List ℕ) {o : Outcome (List ℕ × List ℕ)}
+      → o ≡ answer (bonds_alone bs) s lent (cond (walks? (bonds_alone bs) s) 0 NOTRING) → o ≡ answer (table x bs) s lent (refusal_of_walk (table x bs) s)
+  alone_answer e lent h = h ∙ rw (walks_ring e, atoms_alone, bonds_alone_lem, ← walk-free (table x bs) s e) refl
 
   -- and the number of a refused one is told
-  pub refused-answer : {r : ℕ} → r ≡ refusal (table x bs) → 0 < r → (lent : List ℕ × List ℕ) → outcomeOf r 0 lent ≡ answer (table x bs) s lent (refusalOfWalk (table x bs) s)
-  refused-answer e h lent = both-refused (table x bs) s lent (e ∙ sym (walk_kept (table x bs) s (λ z. omega arith))) h
+  pub refused_answer : {r : ℕ} → r ≡ refusal (table x bs) → 0 < r → (lent : List ℕ × List ℕ) → outcome_of r 0 lent ≡ answer (table x bs) s lent (refusal_of_walk (table x bs) s)
+  refused_answer e h lent = both_refused (table x bs) s lent (e ∙ sym (walk_kept (table x bs) s (λ z. omega arith))) h

@@ -4,9 +4,9 @@ mod round;
 ghost use Rattle.std.specs.Prelude.{◌≡◌, cond, ◌/◌, ◌≤◌, length, take};
 ghost use Rattle.sets.specs.Bond.{bits};
 ghost use Rattle.definitions.specs.Table as spec;
-ghost use Rattle.definitions.specs.Walk.{walkAtoms, walkBonds};
-ghost use Rattle.definitions.specs.Answer.{outcomeOf, over, refusalOfWalk, writtenBoth};
-ghost use Rattle.table.specs.Ends.{bondsAlone, Fitting};
+ghost use Rattle.definitions.specs.Walk.{walk_atoms, walk_bonds};
+ghost use Rattle.definitions.specs.Answer.{outcome_of, over, refusal_of_walk, written_both};
+ghost use Rattle.table.specs.Ends.{bonds_alone, Fitting};
 ghost use Rattle.table.specs.Rows.{Rowed};
 ghost use Rattle.walking.specs.Closing.{walks?};
 
@@ -35,7 +35,7 @@ fn write_walk(
     ring_bonds: &mut [u8],
 ) -> Answer
     requires { Fitting bonds.now × Rowed bonds.now (length bonds.now / 2) rows.now }
-    ensures { outcomeOf result.number result.count (ring_atoms.new, ring_bonds.new) ≡ writtenBoth (cond (walks? (bondsAlone bonds.now) (bits set)) 0 spec.NOTRING) (walkAtoms (bondsAlone bonds.now) (bits set), walkBonds (bondsAlone bonds.now) (bits set)) (ring_atoms.old, ring_bonds.old) }
+    ensures { outcome_of result.number result.count (ring_atoms.new, ring_bonds.new) ≡ written_both (cond (walks? (bonds_alone bonds.now) (bits set)) 0 spec.NOTRING) (walk_atoms (bonds_alone bonds.now) (bits set), walk_bonds (bonds_alone bonds.now) (bits set)) (ring_atoms.old, ring_bonds.old) }
 {
     let mut visited = [0u8; MAX_BONDS];
     let mut crossed = [0u8; MAX_BONDS];
@@ -70,7 +70,7 @@ pub fn ring_walk(
     ring_atoms: &mut [u8],
     ring_bonds: &mut [u8],
 ) -> Answer
-    ensures answer { outcomeOf result.number result.count (ring_atoms.new, ring_bonds.new) ≡ writtenBoth (refusalOfWalk (spec.table atoms bonds.now) (bits set)) (walkAtoms (spec.table atoms bonds.now) (bits set), walkBonds (spec.table atoms bonds.now) (bits set)) (ring_atoms.old, ring_bonds.old) }
+    ensures answer { outcome_of result.number result.count (ring_atoms.new, ring_bonds.new) ≡ written_both (refusal_of_walk (spec.table atoms bonds.now) (bits set)) (walk_atoms (spec.table atoms bonds.now) (bits set), walk_bonds (spec.table atoms bonds.now) (bits set)) (ring_atoms.old, ring_bonds.old) }
     ensures read { bonds.now ≡ bonds.now }
 {
     let seen = table::rows_of(atoms, bonds);

@@ -3,8 +3,8 @@ ghost use Rattle.std.specs.Prelude.{◌≡◌, ◌/◌, ◌<◌, min, length};
 ghost use Rattle.std.specs.Int.Bits.{bit_and};
 ghost use Rattle.sets.specs.Bond.{bits};
 ghost use Rattle.definitions.specs.Table.{tail, head};
-ghost use Rattle.definitions.specs.Walk.{otherAtom};
-ghost use Rattle.table.specs.Ends.{bondsAlone, Fitting};
+ghost use Rattle.definitions.specs.Walk.{other_atom};
+ghost use Rattle.table.specs.Ends.{bonds_alone, Fitting};
 ghost use Rattle.table.specs.Rows.{Rowed};
 ghost use Rattle.walk.specs.Going.{Standing, OtherIn, Noted, Walked};
 
@@ -25,7 +25,7 @@ pub(crate) struct Place {
 // The lower of the two atoms of bond k.
 fn lower_atom(bonds: &[u8], k: usize) -> usize
     requires { k < length bonds.now / 2 }
-    ensures { result ≡ min (tail (bondsAlone bonds.now) k) (head (bondsAlone bonds.now) k) }
+    ensures { result ≡ min (tail (bonds_alone bonds.now) k) (head (bonds_alone bonds.now) k) }
 {
     let ends = ends_of(bonds, k);
     if ends.tail < ends.head {
@@ -38,7 +38,7 @@ fn lower_atom(bonds: &[u8], k: usize) -> usize
 // The atom of bond k that is not a.
 fn other_atom(bonds: &[u8], a: usize, k: usize) -> usize
     requires { k < length bonds.now / 2 }
-    ensures { result ≡ otherAtom (bondsAlone bonds.now) k a }
+    ensures { result ≡ other_atom (bonds_alone bonds.now) k a }
 {
     let ends = ends_of(bonds, k);
     if ends.tail == a { ends.head } else { ends.tail }

@@ -10,8 +10,8 @@ use Rattle.sets.specs.Bits.{has, size, with}
 use Rattle.sets.proofs.Laws.{has-zero}
 use Rattle.sets.proofs.Size.{size-zero, size-with}
 use Rattle.definitions.specs.Search.{some?}
-use Rattle.definitions.proofs.Tests.{by, not-passed, clashes, some_at, none-at}
-use Rattle.definitions.proofs.Paths.{with-new, with-old, with-other}
+use Rattle.definitions.proofs.Tests.{by, not_passed, clashes, some_at, none-at}
+use Rattle.definitions.proofs.Paths.{with_new, with_old, with-other}
 
 -- the first n members differ
 abbrev pub Differ : (ℕ → ℕ) → ℕ → Type 0
@@ -56,27 +56,27 @@ walked B zero = 0
 walked B (suc n) = with (walked B n) (B n)
 
 -- each of them is in it
-pub walked-has : (B : ℕ → ℕ) (n i : ℕ) → i < n → has (walked B n) (B i) ≡ true
+pub walked_has : (B : ℕ → ℕ) (n i : ℕ) → i < n → has (walked B n) (B i) ≡ true
 unfolding walked
-walked-has B zero i l = absurd (omega arith)
-walked-has B (suc n) i l =
-    by (eqb i n) (λ e. ap (λ (x : ℕ). has (walked B (suc n)) (B x)) (eqb-true i n e) ∙ with-new (walked B n) (B n))
-    (λ e. with-old (walked B n) (B n) (B i) (walked-has B n i (omega (arith, eqb-false i n e))))
+walked_has B zero i l = absurd (omega arith)
+walked_has B (suc n) i l =
+    by (eqb i n) (λ e. ap (λ (x : ℕ). has (walked B (suc n)) (B x)) (eqb-true i n e) ∙ with_new (walked B n) (B n))
+    (λ e. with_old (walked B n) (B n) (B i) (walked_has B n i (omega (arith, eqb-false i n e))))
 
 -- and nothing else
-pub walked-found : (B : ℕ → ℕ) (n k : ℕ) → has (walked B n) k ≡ true → (i : ℕ) × (i < n) × (B i ≡ k)
+pub walked_found : (B : ℕ → ℕ) (n k : ℕ) → has (walked B n) k ≡ true → (i : ℕ) × (i < n) × (B i ≡ k)
 unfolding walked
-walked-found B zero k h = clashes h (has-zero k)
-walked-found B (suc n) k h =
-    ⊎_elim (λ t. let (i, l, e) = walked-found B n k t in (i, omega arith, e)) (λ e. (n, omega arith, e)) (with-other (walked B n) (B n) k h)
+walked_found B zero k h = clashes h (has-zero k)
+walked_found B (suc n) k h =
+    ⊎_elim (λ t. let (i, l, e) = walked_found B n k t in (i, omega arith, e)) (λ e. (n, omega arith, e)) (with-other (walked B n) (B n) k h)
 
 -- members that differ come one more at each step
-pub walked-fresh : (B : ℕ → ℕ) (n m : ℕ) → Differ B n → m < n → has (walked B m) (B m) ≡ false
-walked-fresh B n m d l = not-passed _ (λ h. let (i, k, e) = walked-found B m (B m) h in d i m k l e)
+pub walked_fresh : (B : ℕ → ℕ) (n m : ℕ) → Differ B n → m < n → has (walked B m) (B m) ≡ false
+walked_fresh B n m d l = not_passed _ (λ h. let (i, k, e) = walked_found B m (B m) h in d i m k l e)
 
 -- so they are n
-pub walked-size : (B : ℕ → ℕ) (n m : ℕ) → Differ B n → m ≤ n → size (walked B m) ≡ m
+pub walked_size : (B : ℕ → ℕ) (n m : ℕ) → Differ B n → m ≤ n → size (walked B m) ≡ m
 unfolding walked
-walked-size B n zero d l = size-zero
-walked-size B n (suc m) d l =
-    omega (arith, size-with (walked B m) (B m) (walked-fresh B n m d (omega arith)), walked-size B n m d (omega arith))
+walked_size B n zero d l = size-zero
+walked_size B n (suc m) d l =
+    omega (arith, size-with (walked B m) (B m) (walked_fresh B n m d (omega arith)), walked_size B n m d (omega arith))

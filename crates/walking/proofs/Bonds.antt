@@ -19,67 +19,67 @@ use Rattle.definitions.specs.Search.{those}
 use Rattle.definitions.specs.Table.{Table, bonds, tail, head, meets?}
 use Rattle.definitions.specs.Ring.{degree, Even}
 use Rattle.definitions.specs.Basis.{Joins, Joins.along, Joins.back}
-use Rattle.definitions.specs.Walk.{At, otherAtom}
-use Rattle.definitions.proofs.Tests.{by, clashes, and_both, both-and, eqb-self}
-use Rattle.definitions.proofs.Lists.{count-lt, length-listed, those-in, those-fresh, NoRepeats, fresh-none, fresh-more, fresh-length}
+use Rattle.definitions.specs.Walk.{At, other_atom}
+use Rattle.definitions.proofs.Tests.{by, clashes, and_both, both_and, eqb_self}
+use Rattle.definitions.proofs.Lists.{count-lt, length-listed, those_in, those_fresh, NoRepeats, fresh_none, fresh_more, fresh_length}
 use Rattle.definitions.proofs.Refusals.{Valid}
-use Rattle.definitions.proofs.Paths.{joins-turn, joins_of, joins-either}
+use Rattle.definitions.proofs.Paths.{joins_turn, joins_of, joins_either}
 
 -- ---- the atoms of a bond
 
 -- a bond meets the atoms that it joins
-pub joins-meets : {M : Table} {k a b : ℕ} → Joins M k a b → meets? M a k ≡ true
-joins-meets {M} {k} along = rw (eqb-self (tail M k))
-joins-meets {M} {k} back = rw (eqb-self (head M k)) (or-true (eqb (tail M k) (head M k)))
+pub joins_meets : {M : Table} {k a b : ℕ} → Joins M k a b → meets? M a k ≡ true
+joins_meets {M} {k} along = rw (eqb_self (tail M k))
+joins_meets {M} {k} back = rw (eqb_self (head M k)) (or-true (eqb (tail M k) (head M k)))
 
 -- and joins an atom that it meets to its other atom
-pub meets-joins : (M : Table) (k a : ℕ) → meets? M a k ≡ true → Joins M k a (otherAtom M k a)
-meets-joins M k a h =
+pub meets_joins : (M : Table) (k a : ℕ) → meets? M a k ≡ true → Joins M k a (other_atom M k a)
+meets_joins M k a h =
     by (eqb (tail M k) a)
     (λ e. rw e (joins_of (sym (eqb-true (tail M k) a e)) refl))
-    (λ e. rw e (joins-turn (joins_of refl (sym (eqb-true (head M k) a (rw e at h))))))
+    (λ e. rw e (joins_turn (joins_of refl (sym (eqb-true (head M k) a (rw e at h))))))
 
 module _ {M : Table} (valid : Valid M) where
   -- no atom is joined to itself
-  pub joins-apart : {k a b : ℕ} → k < bonds M → Joins M k a b → a ≢ b
-  joins-apart {k} l along e = valid.no_self k l e
-  joins-apart {k} l back e = valid.no_self k l (sym e)
+  pub joins_apart : {k a b : ℕ} → k < bonds M → Joins M k a b → a ≢ b
+  joins_apart {k} l along e = valid.no_self k l e
+  joins_apart {k} l back e = valid.no_self k l (sym e)
 
   -- so a bond joins an atom to one other
-  pub joins-other : {k a b c : ℕ} → k < bonds M → Joins M k a b → Joins M k a c → b ≡ c
-  joins-other l p q = ⊎_elim (λ e. absurd (joins-apart l p (sym e))) (λ e. e) (joins-either (joins-turn p) q)
+  pub joins_other : {k a b c : ℕ} → k < bonds M → Joins M k a b → Joins M k a c → b ≡ c
+  joins_other l p q = ⊎_elim (λ e. absurd (joins_apart l p (sym e))) (λ e. e) (joins_either (joins_turn p) q)
 
   -- which is an atom of the table
-  pub joins-inside : {k a b : ℕ} → k < bonds M → Joins M k a b → b < M.atoms
-  joins-inside {k} l along = (valid.inside k l).1
-  joins-inside {k} l back = (valid.inside k l).0
+  pub joins_inside : {k a b : ℕ} → k < bonds M → Joins M k a b → b < M.atoms
+  joins_inside {k} l along = (valid.inside k l).1
+  joins_inside {k} l back = (valid.inside k l).0
 
 -- ---- two members of a list
 
 module _ {l : List ℕ} {x y : ℕ} (inx : In x l) (iny : In y l) (ne : x ≢ y) where
   -- they are two
-  pair-fresh : NoRepeats (x ∷ y ∷ [])
-  pair-fresh = fresh-more (λ i. ⊎_elim ne not-in-nil (in-cons i)) (fresh-more not-in-nil fresh-none)
+  pair_fresh : NoRepeats (x ∷ y ∷ [])
+  pair_fresh = fresh_more (λ i. ⊎_elim ne not-in-nil (in-cons i)) (fresh_more not-in-nil fresh_none)
 
   -- and members
-  pair-in : (z : ℕ) → In z (x ∷ y ∷ []) → In z l
-  pair-in z i = ⊎_elim (λ e. Memᴰ.cast e inx) (λ j. ⊎_elim (λ e. Memᴰ.cast e iny) (λ k. absurd (not-in-nil k)) (in-cons j)) (in-cons i)
+  pair_in : (z : ℕ) → In z (x ∷ y ∷ []) → In z l
+  pair_in z i = ⊎_elim (λ e. Memᴰ.cast e inx) (λ j. ⊎_elim (λ e. Memᴰ.cast e iny) (λ k. absurd (not-in-nil k)) (in-cons j)) (in-cons i)
 
   -- a list of two has no third
   no_third : length l ≡ 2 → (z : ℕ) → In z l → (z ≡ x) ⊎ (z ≡ y)
   no_third e z i =
       by (eqb z x) (λ t. inl (eqb-true z x t))
-      (λ t. by (eqb z y) (λ u. inr (eqb-true z y u)) (λ u. absurd (omega (arith, e, fresh-length (three t u) inside))))
+      (λ t. by (eqb z y) (λ u. inr (eqb-true z y u)) (λ u. absurd (omega (arith, e, fresh_length (three t u) inside))))
     where
       three : eqb z x ≡ false → eqb z y ≡ false → NoRepeats (z ∷ x ∷ y ∷ [])
-      three t u = fresh-more (λ j. ⊎_elim (eqb-false z x t) (λ k. ⊎_elim (eqb-false z y u) not-in-nil (in-cons k)) (in-cons j)) pair-fresh
+      three t u = fresh_more (λ j. ⊎_elim (eqb-false z x t) (λ k. ⊎_elim (eqb-false z y u) not-in-nil (in-cons k)) (in-cons j)) pair_fresh
 
       inside : (w : ℕ) → In w (z ∷ x ∷ y ∷ []) → In w l
-      inside w j = ⊎_elim (λ q. Memᴰ.cast q i) (pair-in w) (in-cons j)
+      inside w j = ⊎_elim (λ q. Memᴰ.cast q i) (pair_in w) (in-cons j)
 
   -- and one with no third has two
-  two-alone : NoRepeats l → ((z : ℕ) → In z l → (z ≡ x) ⊎ (z ≡ y)) → length l ≡ 2
-  two-alone f only = omega (arith, fresh-length pair-fresh pair-in, fresh-length f back)
+  two_alone : NoRepeats l → ((z : ℕ) → In z l → (z ≡ x) ⊎ (z ≡ y)) → length l ≡ 2
+  two_alone f only = omega (arith, fresh_length pair_fresh pair_in, fresh_length f back)
     where
       back : (z : ℕ) → In z l → In z (x ∷ y ∷ [])
       back z i = ⊎_elim here (λ e. there (here e)) (only z i)
@@ -93,22 +93,22 @@ module _ (M : Table) (s a : ℕ) where
 
   -- the list that the degree counts has them
   listed : {k : ℕ} → At M s a k → In k (those (bonds M) at?)
-  listed {k} r = (those-in (bonds M) at? k).1 (r.0, both-and r.1 r.2)
+  listed {k} r = (those_in (bonds M) at? k).1 (r.0, both_and r.1 r.2)
 
   -- and no others
   found : (k : ℕ) → In k (those (bonds M) at?) → At M s a k
-  found k i = let (l, h) = (those-in (bonds M) at? k).0 i in let (u, v) = and_both (has s k) (meets? M a k) h in (l, u, v)
+  found k i = let (l, h) = (those_in (bonds M) at? k).0 i in let (u, v) = and_both (has s k) (meets? M a k) h in (l, u, v)
 
   -- where they are even in number none is there alone
-  pub not-alone : {x : ℕ} → degree M s a % 2 ≡ 0 → At M s a x → ((k : ℕ) → At M s a k → k ≡ x) → ⊥
+  pub not_alone : {x : ℕ} → degree M s a % 2 ≡ 0 → At M s a x → ((k : ℕ) → At M s a k → k ≡ x) → ⊥
   unfolding degree
-  not-alone {x} e p one =
+  not_alone {x} e p one =
       omega (
         arith,
         e,
-        count-lt at? (bonds M) x p.0 (both-and p.1 p.2),
+        count-lt at? (bonds M) x p.0 (both_and p.1 p.2),
         length-listed (bonds M) at? (λ j. j),
-        fresh-length {m = x ∷ []} (those-fresh (bonds M) at?) (λ k i. here (one k (found k i))),
+        fresh_length {m = x ∷ []} (those_fresh (bonds M) at?) (λ k i. here (one k (found k i))),
       )
 
   module _ {x y : ℕ} (p : At M s a x) (q : At M s a y) (ne : x ≢ y) where
@@ -122,12 +122,12 @@ module _ (M : Table) (s a : ℕ) where
     unfolding degree
     bonds-two only =
         sym (length-listed (bonds M) at? (λ j. j))
-        ∙ two-alone (listed p) (listed q) ne (those-fresh (bonds M) at?) (λ k i. only k (found k i))
+        ∙ two_alone (listed p) (listed q) ne (those_fresh (bonds M) at?) (λ k i. only k (found k i))
 
 -- where the set has at most two bonds at an atom, an even part of it that has the one has the other
-pub even-both : (M : Table) (s a : ℕ) {t x y : ℕ} → Even M t → Sub t s → a < M.atoms → At M s a x → ((k : ℕ) → At M s a k → (k ≡ x) ⊎ (k ≡ y))
+pub even_both : (M : Table) (s a : ℕ) {t x y : ℕ} → Even M t → Sub t s → a < M.atoms → At M s a x → ((k : ℕ) → At M s a k → (k ≡ x) ⊎ (k ≡ y))
     → has t x ≡ true → has t y ≡ true
-even-both M s a {t} {x} {y} e inside l p only h =
+even_both M s a {t} {x} {y} e inside l p only h =
     by (has t y) (λ q. q)
-    (λ q. absurd (not-alone M t a (e.evenly a l) (p.0, h, p.2)
+    (λ q. absurd (not_alone M t a (e.evenly a l) (p.0, h, p.2)
     (λ k m. ⊎_elim (λ z. z) (λ z. clashes m.1 (ap (has t) z ∙ q)) (only k (m.0, inside k m.1, m.2)))))

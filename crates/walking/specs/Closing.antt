@@ -3,7 +3,7 @@ use Rattle.std.specs.Prelude.{Bool, false, ◌&&◌, cond, ℕ, zero, suc, eqb}
 use Rattle.sets.specs.Bits.{size}
 use Rattle.definitions.specs.Table.{Table}
 use Rattle.definitions.specs.Ring.{degree}
-use Rattle.definitions.specs.Walk.{onward, walkStart}
+use Rattle.definitions.specs.Walk.{onward, walk_start}
 
 -- with n bonds left to go from a place: each atom that is reached has two bonds of the set s, that by which it is reached and one other, and
 -- atom a is reached by the last bond and not before
@@ -15,4 +15,4 @@ closes? M s a (suc n) p =
 
 -- the walk from the lowest bond is back at its start after as many bonds as the set has
 unfoldable pub walks? : Table → ℕ → Bool
-walks? M s = closes? M s (walkStart M s).0 (size s) (walkStart M s)
+walks? M s = closes? M s (walk_start M s).0 (size s) (walk_start M s)

@@ -12,6 +12,6 @@ pub record OneWalk (M : Table) (s : ℕ) (visited crossed : List ℕ) : Type 0 w
   -- there is no other
   pub one : (visited' crossed' : List ℕ) → Walk M s visited' crossed' → (visited' ≡ visited) × (crossed' ≡ crossed)
   -- its bonds are those of the set, and no bond and no atom stands at two places
-  pub bonds-all : (k : ℕ) → In k crossed ↔ (has s k ≡ true)
-  pub bonds-once : (i j : ℕ) → i < j → j < size s → get_or crossed i 0 ≢ get_or crossed j 0
-  pub atoms-once : (i j : ℕ) → i < j → j < size s → get_or visited i 0 ≢ get_or visited j 0
+  pub bonds_all : (k : ℕ) → In k crossed ↔ (has s k ≡ true)
+  pub bonds_once : (i j : ℕ) → i < j → j < size s → get_or crossed i 0 ≢ get_or crossed j 0
+  pub atoms_once : (i j : ℕ) → i < j → j < size s → get_or visited i 0 ≢ get_or visited j 0

@@ -2,9 +2,9 @@
 use mathlib.Core.Path.{refl}
 use native.Mathlib.Omega.{arith}
 use borrow.Author.Rules.{rules}
-use Rattle.answers.proofs.Answers.{is-refused, is-short, is-full}
-use Rattle.basis.proofs.Holding.{basis-held, assemblies-counted}
-use Rattle.basis.proofs.Writing.{assemblies-places, assemblies-over}
+use Rattle.answers.proofs.Answers.{is_refused, is_short, is_full}
+use Rattle.basis.proofs.Holding.{basis_held, assemblies-counted}
+use Rattle.basis.proofs.Writing.{assemblies_places, assemblies-over}
 use Rattle.basis.proofs.assemblies.Statement.{statement}
 use Rattle.basis.proofs.assemblies.Tie as tie
 
@@ -12,12 +12,12 @@ basis-of-requires : tie.Need-basis-of-requires
 basis-of-requires c κs = search rules
 
 returns : tie.Need-returns
-returns c = (is-refused _ _ c.before.basis-of.ensures.number (omega arith), refl)
+returns c = (is_refused _ _ c.before.basis_of_lem.ensures.number (omega arith), refl)
 
 returns-2 : tie.Need-returns-2
 returns-2 c =
-    let basis = c.before.before.basis-of.ensures in
-    (is-short _ _ basis.number (omega arith) (assemblies-counted (basis-held basis (omega arith))) (omega arith), refl)
+    let basis = c.before.before.basis_of_lem.ensures in
+    (is_short _ _ basis.number (omega arith) (assemblies-counted (basis_held basis (omega arith))) (omega arith), refl)
 
 assemblies-of-requires : tie.Need-assemblies-of-requires
 assemblies-of-requires c κs = search rules
@@ -26,16 +26,16 @@ write-assemblies-requires : tie.Need-write-assemblies-requires
 write-assemblies-requires c κs =
     let parts = c.before.assemblies-of.ensures in
     let basis = c.before.before.before.before.before.before in
-    (parts.counted, assemblies-places (basis-held basis.basis-of.ensures (omega arith)) parts basis.before.before.before.args.out.now (omega arith))
+    (parts.counted, assemblies_places (basis_held basis.basis_of_lem.ensures (omega arith)) parts basis.before.before.before.args.out.now (omega arith))
 
 same_length : tie.Need-same-length
 same_length c = search rules
 
 returns-3 : tie.Need-returns-3
 returns-3 c =
-    let basis = c.before.before.before.before.before.before.before.before.before.basis-of.ensures in
-    let held = basis-held basis (omega arith) in (
-      is-full _ _ basis.number (omega arith) (assemblies-counted held) (omega arith)
+    let basis = c.before.before.before.before.before.before.before.before.before.basis_of_lem.ensures in
+    let held = basis_held basis (omega arith) in (
+      is_full _ _ basis.number (omega arith) (assemblies-counted held) (omega arith)
           (assemblies-over held c.before.before.before.before.assemblies-of.ensures _ (omega arith) c.before.before.write-assemblies.ensures),
       refl,
     )

@@ -9,7 +9,7 @@ basis-of-requires : tie.Need-basis-of-requires
 basis-of-requires c κs = search rules
 
 returns : tie.Need-returns
-returns c = (basis-told c.basis-of.ensures, refl)
+returns c = (basis-told c.basis_of_lem.ensures, refl)
 
 pub check-spec : {M : Type 1} → statement M
 check-spec = tie.close (tie.spec basis-of-requires returns)

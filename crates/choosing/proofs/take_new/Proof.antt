@@ -1,7 +1,7 @@
 -- The ring is taken where something is left of it, and what is left is kept at its lowest bond. Assumes nothing.
 use native.Mathlib.Omega.{arith}
 use Rattle.sets.proofs.Machine.{bond-lt}
-use Rattle.choosing.proofs.Selecting.{step-new, step-old}
+use Rattle.choosing.proofs.Selecting.{step_new, step_old}
 use borrow.Author.Rules.{rules}
 use Rattle.choosing.proofs.take_new.Statement.{statement}
 use Rattle.choosing.proofs.take_new.Tie as tie
@@ -29,12 +29,12 @@ returns c =
     let put = c.before.before in
     let next = put.before.before.before.before.before in
     let pre = next.before.before.before.before.requires in
-    step-new pre.0 next.before.left-of.ensures next.next.ensures pre.1 (omega arith) put.before.before.put-at.ensures.sets put.put-at2.ensures.sets
+    step_new pre.0 next.before.left-of.ensures next.next.ensures pre.1 (omega arith) put.before.before.put-at.ensures.sets put.put-at2.ensures.sets
 
 returns-2 : tie.Need-returns-2
 returns-2 c =
     let rest = c.before.before.left-of in
-    step-old c.before.before.before.before.before.requires.0 rest.ensures c.before.next.ensures (bond-lt rest.result (search rules)) c.if1.false
+    step_old c.before.before.before.before.before.requires.0 rest.ensures c.before.next.ensures (bond-lt rest.result (search rules)) c.if1.false
 
 pub take-new-spec : {M : Type 1} → statement M
 take-new-spec =

@@ -4,21 +4,21 @@ use Prim.Native.Nat.{◌-◌}
 use native.Mathlib.Omega.{arith}
 use lib.ListN.{length}
 use Rattle.sets.specs.Bond.{bits}
-use Rattle.sets.specs.Lists.{setsIn}
+use Rattle.sets.specs.Lists.{sets_in}
 use Rattle.sets.proofs.Lists.{sets-length}
-use Rattle.combining.proofs.Combining.{Doubling, doubling-none, doubling-more, doubling-all}
+use Rattle.combining.proofs.Combining.{Doubling, doubling_none, doubling_more, doubling_all}
 use borrow.Author.Rules.{rules}
 use Rattle.combining.proofs.double.Statement.{statement}
 use Rattle.combining.proofs.double.Tie as tie
 
 abbrev invariant-loop : tie.invariant-loop
-invariant-loop sums₀ half ring j₀ sums j = (length sums ≡ length sums₀) × Doubling (setsIn sums₀) half (bits ring) (setsIn sums) j
+invariant-loop sums₀ half ring j₀ sums j = (length sums ≡ length sums₀) × Doubling (sets_in sums₀) half (bits ring) (sets_in sums) j
 
 abbrev decreases-loop : tie.decreases-loop
 decreases-loop sums₀ half ring j₀ sums j = half - j
 
 loop-holds : tie.Need-loop-init invariant-loop decreases-loop
-loop-holds c = (refl, doubling-none _ _ _ c.before.requires)
+loop-holds c = (refl, doubling_none _ _ _ c.before.requires)
 
 at-requires : tie.Need-at-requires invariant-loop decreases-loop
 at-requires c κs = let d = c.before.before.loop.invariant.1 in omega (arith, d.few, d.long)
@@ -44,13 +44,13 @@ loop-again : tie.Need-loop-preserved invariant-loop decreases-loop
 loop-again c =
     let turn = c.before.before.before.before.before.before.before.before.loop.invariant in
     let put = c.before.before.put-at.ensures in
-    (put.long ∙ turn.0, doubling-more turn.1 (omega arith) c.before.before.before.before.before.at.ensures c.before.before.before.before.sum.ensures put.sets)
+    (put.long ∙ turn.0, doubling_more turn.1 (omega arith) c.before.before.before.before.before.at.ensures c.before.before.before.before.sum.ensures put.sets)
 
 same_length : tie.Need-same-length invariant-loop decreases-loop
 same_length c = c.before.loop.invariant.0
 
 returns : tie.Need-returns invariant-loop decreases-loop
-returns c = (c.before.loop.invariant.0, doubling-all c.before.loop.invariant.1 (omega arith))
+returns c = (c.before.loop.invariant.0, doubling_all c.before.loop.invariant.1 (omega arith))
 
 pub double-spec : {M : Type 1} → statement M
 double-spec =

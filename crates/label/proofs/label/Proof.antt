@@ -1,7 +1,7 @@
 -- The refusal is handed on. What is counted of an accepted table is written as its label. Assumes nothing.
 use mathlib.Core.Path.{refl}
 use native.Mathlib.Omega.{arith}
-use Rattle.label.proofs.Labelling.{cleared, sizes-none, label-refused, counted, label-written}
+use Rattle.label.proofs.Labelling.{cleared, sizes_none, label_refused, counted, label_written}
 use borrow.Author.Rules.{rules}
 use Rattle.label.proofs.label.Statement.{statement}
 use Rattle.label.proofs.label.Tie as tie
@@ -13,7 +13,7 @@ count-rings-requires : tie.Need-count-rings-requires
 count-rings-requires c κs = (cleared, cleared, omega arith)
 
 returns : tie.Need-returns
-returns c = (label-refused c.before.before.before.count-rings.ensures _ c.if1.true, refl)
+returns c = (label_refused c.before.before.before.count-rings.ensures _ c.if1.true, refl)
 
 slice-aggregate-write-label : tie.Need-slice-aggregate-write-label
 slice-aggregate-write-label c = search rules
@@ -22,7 +22,7 @@ write-label-requires : tie.Need-write-label-requires
 write-label-requires c κs =
     let counts = c.before.before.before.before.before.before.before in
     let told = counted counts.count-rings.ensures (omega arith) in
-    (sizes-none told.rings, sizes-none told.chosen, omega (arith, told.few))
+    (sizes_none told.rings, sizes_none told.chosen, omega (arith, told.few))
 
 same_length : tie.Need-same-length
 same_length c = search rules
@@ -31,7 +31,7 @@ returns-2 : tie.Need-returns-2
 returns-2 c =
     let told = c.before.before in
     let counts = told.before.before.before.before.before.before.before.before in
-    (label-written counts.count-rings.ensures (omega arith) _ told.write-label.ensures, refl)
+    (label_written counts.count-rings.ensures (omega arith) _ told.write-label.ensures, refl)
 
 pub label-spec : {M : Type 1} → statement M
 label-spec =

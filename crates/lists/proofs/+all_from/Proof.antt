@@ -9,7 +9,7 @@ use Rattle.lists.proofs.all_from.Kinds as kinds
 use Rattle.lists.proofs.+all_from.Lts-all_from as lts
 use Rattle.lists.proofs.all_in_few.Reads as in-few
 use Rattle.lists.proofs.all_in_many.Reads as in-many
-use Rattle.lists.proofs.all_in_most.Reads as in-most
+use Rattle.lists.proofs.all_in_most.Reads as in_most
 use borrow.Author.Rules.{rules}
 use Rattle.lists.proofs.+all_from.{statement}
 use Rattle.lists.proofs.+all_from.Tie.{close}
@@ -28,7 +28,7 @@ module _ (t : ℕ) where
 
   -- what is known of the calls
   abbrev claims : lts.Claims
-  claims = (in-most.Asked, in-most.Learnt, in-many.Asked, in-many.Learnt, below, All-from.Post, in-few.Asked, in-few.Learnt)
+  claims = (in_most.Asked, in_most.Learnt, in-many.Asked, in-many.Learnt, below, All-from.Post, in-few.Asked, in-few.Learnt)
 
   all-in-most-requires : lts.Need-all-in-most-requires claims at All-from.Post
   all-in-most-requires c κs = c.before.before.before.requires.1.longest

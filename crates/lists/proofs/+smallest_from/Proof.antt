@@ -9,7 +9,7 @@ use Rattle.lists.proofs.smallest_from.Kinds as kinds
 use Rattle.lists.proofs.+smallest_from.Lts-smallest_from as lts
 use Rattle.lists.proofs.smallest_in_few.Reads as in-few
 use Rattle.lists.proofs.smallest_in_many.Reads as in-many
-use Rattle.lists.proofs.smallest_in_most.Reads as in-most
+use Rattle.lists.proofs.smallest_in_most.Reads as in_most
 use borrow.Author.Rules.{rules}
 use Rattle.lists.proofs.+smallest_from.{statement}
 use Rattle.lists.proofs.+smallest_from.Tie.{close}
@@ -28,7 +28,7 @@ module _ (t : ℕ) where
 
   -- what is known of the calls
   abbrev claims : lts.Claims
-  claims = (in-most.Asked, in-most.Learnt, in-many.Asked, in-many.Learnt, below, smallest-from.Post, in-few.Asked, in-few.Learnt)
+  claims = (in_most.Asked, in_most.Learnt, in-many.Asked, in-many.Learnt, below, smallest-from.Post, in-few.Asked, in-few.Learnt)
 
   smallest-in-most-requires : lts.Need-smallest-in-most-requires claims at smallest-from.Post
   smallest-in-most-requires c κs = let given = c.before.before.before.requires.1 in (given.0, given.1, given.2.longest)

@@ -2,14 +2,14 @@
 use mathlib.Core.Path.{ap}
 use lib.ListN.{length}
 use Rattle.sets.proofs.Lists.{sets-blank}
-use Rattle.definitions.specs.Table.{maxBonds}
-use Rattle.lists.proofs.Laws.{listable-held, ordered-choosable, ordered-chosen}
+use Rattle.definitions.specs.Table.{max_bonds}
+use Rattle.lists.proofs.Laws.{listable_held, ordered_choosable, ordered-chosen}
 use borrow.Author.Rules.{rules}
 use Rattle.lists.proofs.write_smallest.Statement.{statement}
 use Rattle.lists.proofs.write_smallest.Tie as tie
 
 list-rings-requires : tie.Need-list-rings-requires
-list-rings-requires c κs = let given = c.before.before.before.before.before.requires in (listable-held _ given.2, listable-held _ given.3)
+list-rings-requires c κs = let given = c.before.before.before.before.before.requires in (listable_held _ given.2, listable_held _ given.3)
 
 slice-aggregate-smallest-of : tie.Need-slice-aggregate-smallest-of
 slice-aggregate-smallest-of c = search rules
@@ -18,7 +18,7 @@ smallest-of-requires : tie.Need-smallest-of-requires
 smallest-of-requires c κs =
     let ordered = c.before.before.before.before.before.before in
     let given = ordered.before.before.before.before.before.before.requires in
-    ordered-choosable ordered.list-rings.ensures given.0 given.1 (ap length (sets-blank maxBonds))
+    ordered_choosable ordered.list-rings.ensures given.0 given.1 (ap length (sets-blank max_bonds))
 
 slice-aggregate-write-sets : tie.Need-slice-aggregate-write-sets
 slice-aggregate-write-sets c = search rules

@@ -4,15 +4,15 @@ use mathlib.Core.Path.{◌≡◌}
 use Prim.Native.Nat.{◌+◌, ◌-◌}
 use native.Mathlib.Omega.{arith}
 use lib.ListN.{drop}
-use Rattle.sets.specs.Lists.{setsIn}
+use Rattle.sets.specs.Lists.{sets_in}
 use Rattle.lookup.specs.Lookup.{start}
-use Rattle.lookup.proofs.Laws.{start-here, start-on, start-end}
+use Rattle.lookup.proofs.Laws.{start_here, start-on, start-end}
 use borrow.Author.Rules.{rules}
 use Rattle.lookup.proofs.run_start.Statement.{statement}
 use Rattle.lookup.proofs.run_start.Tie as tie
 
 abbrev invariant-loop : tie.invariant-loop
-invariant-loop list size n i₀ i = start size (setsIn list) ≡ i + start size (drop i (setsIn list))
+invariant-loop list size n i₀ i = start size (sets_in list) ≡ i + start size (drop i (sets_in list))
 
 abbrev decreases-loop : tie.decreases-loop
 decreases-loop list size n i₀ i = n - i
@@ -36,19 +36,19 @@ loop-again : tie.Need-loop-preserved invariant-loop decreases-loop
 loop-again c =
     let k = c.before.before.before.loop.i in
     let a = c.before.before.before.before.before.before.args in
-    omega (arith, start-on a.size (setsIn a.list.now) k (omega arith) c.before.bonds-at.ensures c.if1.true)
+    omega (arith, start-on a.size (sets_in a.list.now) k (omega arith) c.before.bonds-at.ensures c.if1.true)
 
 returns : tie.Need-returns invariant-loop decreases-loop
 returns c =
     let k = c.before.before.before.loop.i in
     let a = c.before.before.before.before.before.before.args in
-    omega (arith, start-here a.size (setsIn a.list.now) k (omega arith) c.before.bonds-at.ensures c.if1.false)
+    omega (arith, start_here a.size (sets_in a.list.now) k (omega arith) c.before.bonds-at.ensures c.if1.false)
 
 returns-2 : tie.Need-returns-2 invariant-loop decreases-loop
 returns-2 c =
     let k = c.before.loop.i in
     let a = c.before.before.before.before.args in
-    omega (arith, start-end a.size (setsIn a.list.now) k (omega arith))
+    omega (arith, start-end a.size (sets_in a.list.now) k (omega arith))
 
 pub run-start-spec : {M : Type 1} → statement M
 run-start-spec =

@@ -6,7 +6,7 @@ use lib.ListN.{get_or}
 use Rattle.sets.specs.Bits.{size}
 use Rattle.basis.specs.Held.{members_of}
 use Rattle.basis.proofs.Holding.{members-at}
-use Rattle.perception.proofs.Perceiving.{Added, added_none, added-tangled, added-empty, added-fits, added_more, added-untangled, added-all, perceives-refused, perceives-tangled, perceives-all}
+use Rattle.perception.proofs.Perceiving.{Added, added_none, added_tangled, added_empty, added_fits, added_more, added_untangled, added_all, perceives_refused, perceives_tangled, perceives_all}
 use borrow.Author.Rules.{rules}
 use Rattle.perception.proofs.perceive.Statement.{statement}
 use Rattle.perception.proofs.perceive.Tie as tie
@@ -24,7 +24,7 @@ refused-requires : tie.Need-refused-requires invariant-loop decreases-loop
 refused-requires c κs = search rules
 
 returns : tie.Need-returns invariant-loop decreases-loop
-returns c = perceives-refused c.before.before.basis-of.ensures c.before.if1.true c.refused.ensures
+returns c = perceives_refused c.before.before.basis_of_lem.ensures c.before.if1.true c.refused.ensures
 
 assemblies-of-requires : tie.Need-assemblies-of-requires invariant-loop decreases-loop
 assemblies-of-requires c κs = search rules
@@ -53,19 +53,19 @@ returns-2 c =
     let turn = c.before.before.before.before.before in
     let at = turn.before in
     let held = at.before.before.before.before in
-    perceives-tangled held.basis-of.ensures (omega arith) at.assemblies-of.ensures
-    (added-tangled turn.loop.invariant (omega arith) (told c.before.before) (omega arith)) c.refused2.ensures
+    perceives_tangled held.basis_of_lem.ensures (omega arith) at.assemblies-of.ensures
+    (added_tangled turn.loop.invariant (omega arith) (told c.before.before) (omega arith)) c.refused2.ensures
 
 shl-sums : tie.Need-overflow-shl-sums invariant-loop decreases-loop
 shl-sums c = search rules
 
 sub_sums : tie.Need-overflow-sub-sums invariant-loop decreases-loop
-sub_sums c = added-empty c.before.before.before.before.loop.invariant (omega arith) (told c.before) (omega arith)
+sub_sums c = added_empty c.before.before.before.before.loop.invariant (omega arith) (told c.before) (omega arith)
 
 add-sums : tie.Need-overflow-add-sums invariant-loop decreases-loop
 add-sums c =
     let turn = c.before.before.before.before in
-    omega (arith, added-fits turn.loop.invariant (omega arith) (told c.before) (omega arith) turn.before.assemblies-of.ensures.counted)
+    omega (arith, added_fits turn.loop.invariant (omega arith) (told c.before) (omega arith) turn.before.assemblies-of.ensures.counted)
 
 add_a : tie.Need-overflow-add-a invariant-loop decreases-loop
 add_a c = search rules
@@ -81,8 +81,8 @@ returns-3 c =
     let end = c.before in
     let at = end.before in
     let held = at.before.before.before.before in
-    perceives-all held.basis-of.ensures (omega arith) at.assemblies-of.ensures
-    (added-untangled end.loop.invariant (omega arith)) (added-all end.loop.invariant (omega arith))
+    perceives_all held.basis_of_lem.ensures (omega arith) at.assemblies-of.ensures
+    (added_untangled end.loop.invariant (omega arith)) (added_all end.loop.invariant (omega arith))
 
 pub perceive-spec : {M : Type 1} → statement M
 perceive-spec =

@@ -2,7 +2,7 @@
 use mathlib.Core.Path.{refl}
 use native.Mathlib.Omega.{arith}
 use Rattle.answers.proofs.Answers.{sets-refused, sets-accepted}
-use Rattle.reduced.proofs.Reducing.{reduces-sets}
+use Rattle.reduced.proofs.Reducing.{reduces_sets}
 use borrow.Author.Rules.{rules}
 use Rattle.reduced.proofs.reduced_basis.Statement.{statement}
 use Rattle.reduced.proofs.reduced_basis.Tie as tie
@@ -22,7 +22,7 @@ same_length c = search rules
 returns-2 : tie.Need-returns-2
 returns-2 c =
     let found = c.before.before.before.before.before.before.before.before.reduce.ensures in
-    (sets-accepted _ _ found.number (omega arith) (reduces-sets found (omega arith)) c.before.before.write-sets.ensures, refl)
+    (sets-accepted _ _ found.number (omega arith) (reduces_sets found (omega arith)) c.before.before.write-sets.ensures, refl)
 
 pub reduced-basis-spec : {M : Type 1} → statement M
 reduced-basis-spec =

@@ -3,8 +3,8 @@ use mathlib.Core.Path.{◌≡◌, ap, ◌∙◌}
 use lib.ListN.{length}
 use Rattle.sets.specs.Lists.{words}
 use Rattle.sets.proofs.OneWord.{one_value}
-use Rattle.definitions.specs.Label.{bytes_of, setBytes}
-use Rattle.lent.proofs.Appending.{appended-as}
+use Rattle.definitions.specs.Label.{bytes_of, set_bytes}
+use Rattle.lent.proofs.Appending.{appended_as}
 use borrow.Author.Rules.{rules}
 use Rattle.sidecar.proofs.put_set.Statement.{statement}
 use Rattle.sidecar.proofs.put_set.Tie as tie
@@ -25,7 +25,7 @@ returns : tie.Need-returns
 returns c =
     let spelt = c.before.before.before.before in
     let long : length spelt.words.result ≡ words = search rules in
-    appended-as (ap (bytes_of setBytes) (one_value _ long ∙ spelt.words.ensures)) c.before.before.put-number.ensures
+    appended_as (ap (bytes_of set_bytes) (one_value _ long ∙ spelt.words.ensures)) c.before.before.put-number.ensures
 
 pub put-set-spec : {M : Type 1} → statement M
 put-set-spec =

@@ -3,16 +3,16 @@ use mathlib.Core.Path.{sym, ap}
 use Prim.Native.Nat.{◌-◌}
 use native.Mathlib.Omega.{arith}
 use lib.ListN.{get_or}
-use Rattle.sets.specs.Lists.{setsIn}
-use Rattle.definitions.specs.Label.{bytes_of, setBytes}
-use Rattle.lent.proofs.Appending.{appended-as, Strung, strung-none, strung-more, strung-all, strung-room, strung-length}
-use Rattle.fields.proofs.Bytes.{length-bytesOf, bytesOfAll-gather}
+use Rattle.sets.specs.Lists.{sets_in}
+use Rattle.definitions.specs.Label.{bytes_of, set_bytes}
+use Rattle.lent.proofs.Appending.{appended_as, Strung, strung_none, strung_more, strung_all, strung_room, strung_length}
+use Rattle.fields.proofs.Bytes.{length-bytes_of, bytes_of_all-gather}
 use borrow.Author.Rules.{rules}
 use Rattle.sidecar.proofs.put_sets.Statement.{statement}
 use Rattle.sidecar.proofs.put_sets.Tie as tie
 
 abbrev invariant-loop : tie.invariant-loop
-invariant-loop sets n out₀ at next₀ i₀ out next i = Strung (λ k. bytes_of setBytes (get_or (setsIn sets) k 0)) n out₀ out at next i
+invariant-loop sets n out₀ at next₀ i₀ out next i = Strung (λ k. bytes_of set_bytes (get_or (sets_in sets) k 0)) n out₀ out at next i
 
 abbrev decreases-loop : tie.decreases-loop
 decreases-loop sets n out₀ at next₀ i₀ out next i = n - i
@@ -20,7 +20,7 @@ decreases-loop sets n out₀ at next₀ i₀ out next i = n - i
 loop-holds : tie.Need-loop-init invariant-loop decreases-loop
 loop-holds c =
     let a = c.before.before.args in
-    strung-none _ _ _ _ (rw (bytesOfAll-gather setBytes (setsIn a.sets.now) a.n c.before.before.requires.0) at c.before.before.requires.1)
+    strung_none _ _ _ _ (rw (bytes_of_all-gather set_bytes (sets_in a.sets.now) a.n c.before.before.requires.0) at c.before.before.requires.1)
 
 at-requires : tie.Need-at-requires invariant-loop decreases-loop
 at-requires c κs = omega (arith, c.before.before.before.before.requires.0)
@@ -28,7 +28,7 @@ at-requires c κs = omega (arith, c.before.before.before.before.requires.0)
 put-set-requires : tie.Need-put-set-requires invariant-loop decreases-loop
 put-set-requires c κs =
     let turn = c.before.before.before in
-    omega (arith, strung-room turn.loop.invariant (omega arith), length-bytesOf setBytes (get_or (setsIn turn.before.before.before.args.sets.now) turn.loop.i 0))
+    omega (arith, strung_room turn.loop.invariant (omega arith), length-bytes_of set_bytes (get_or (sets_in turn.before.before.before.args.sets.now) turn.loop.i 0))
 
 add-i : tie.Need-overflow-add-i invariant-loop decreases-loop
 add-i c = search rules
@@ -40,13 +40,13 @@ loop-again : tie.Need-loop-preserved invariant-loop decreases-loop
 loop-again c =
     let put = c.before.before in
     let read = put.before.before in
-    strung-more read.before.before.loop.invariant (omega arith) (appended-as (ap (bytes_of setBytes) read.at.ensures) put.put-set.ensures)
+    strung_more read.before.before.loop.invariant (omega arith) (appended_as (ap (bytes_of set_bytes) read.at.ensures) put.put-set.ensures)
 
 same_length : tie.Need-same-length invariant-loop decreases-loop
-same_length c = strung-length c.before.loop.invariant
+same_length c = strung_length c.before.loop.invariant
 
 returns : tie.Need-returns invariant-loop decreases-loop
-returns c = appended-as (sym (bytesOfAll-gather _ _ _ c.before.before.before.before.requires.0)) (strung-all c.before.loop.invariant (omega arith))
+returns c = appended_as (sym (bytes_of_all-gather _ _ _ c.before.before.before.before.requires.0)) (strung_all c.before.loop.invariant (omega arith))
 
 pub put-sets-spec : {M : Type 1} → statement M
 put-sets-spec =

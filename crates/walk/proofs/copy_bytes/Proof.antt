@@ -6,7 +6,7 @@ use native.Mathlib.Omega.{arith}
 use lib.ListN.{length, take}
 use lib.Seq.{length-take-le, get_or-take}
 use borrow.Author.Rules.{rules}
-use Rattle.lent.proofs.Appending.{Spelt, spelt-none, spelt-length, spelt-more, spelt-all, appended-over}
+use Rattle.lent.proofs.Appending.{Spelt, spelt_none, spelt_length, spelt_more, spelt_all, appended_over}
 use Rattle.walk.proofs.copy_bytes.Statement.{statement}
 use Rattle.walk.proofs.copy_bytes.Tie as tie
 
@@ -21,13 +21,13 @@ long : (c : tie.Start invariant-loop decreases-loop) → length (take c.args.n c
 long c = length-take-le c.args.n c.args.from.now c.requires.0
 
 loop-holds : tie.Need-loop-init invariant-loop decreases-loop
-loop-holds c = spelt-none _ _ 0 (omega (arith, long c))
+loop-holds c = spelt_none _ _ 0 (omega (arith, long c))
 
 shared-slice-read-to : tie.Need-shared-slice-read-to invariant-loop decreases-loop
 shared-slice-read-to c = search rules
 
 slice-write-to : tie.Need-slice-write-to invariant-loop decreases-loop
-slice-write-to c = omega (arith, spelt-length c.before.before.loop.invariant, c.before.before.before.requires.1)
+slice-write-to c = omega (arith, spelt_length c.before.before.loop.invariant, c.before.before.before.requires.1)
 
 add-i : tie.Need-overflow-add-i invariant-loop decreases-loop
 add-i c = search rules
@@ -39,13 +39,13 @@ loop-again : tie.Need-loop-preserved invariant-loop decreases-loop
 loop-again c =
     let start = c.before.before.before in
     let byte = sym (get_or-take start.args.n start.args.from.now c.before.before.loop.i 0 (omega arith)) in
-    simp zero-add at (spelt-more c.before.before.loop.invariant (omega (arith, long start)) byte)
+    simp zero-add at (spelt_more c.before.before.loop.invariant (omega (arith, long start)) byte)
 
 same_length : tie.Need-same-length invariant-loop decreases-loop
-same_length c = spelt-length c.before.loop.invariant
+same_length c = spelt_length c.before.loop.invariant
 
 returns : tie.Need-returns invariant-loop decreases-loop
-returns c = appended-over (spelt-all c.before.loop.invariant (sym (long c.before.before)) (omega arith))
+returns c = appended_over (spelt_all c.before.loop.invariant (sym (long c.before.before)) (omega arith))
 
 pub copy-bytes-spec : {M : Type 1} → statement M
 copy-bytes-spec =

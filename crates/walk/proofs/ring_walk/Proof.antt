@@ -4,8 +4,8 @@ use native.Mathlib.Omega.{arith}
 use borrow.Author.Rules.{rules}
 use Rattle.definitions.specs.Table.{table, refusal}
 use Rattle.definitions.proofs.Refusals.{accepted}
-use Rattle.table.proofs.Fitting.{valid-fitting}
-use Rattle.walk.proofs.Answering.{alone-answer, refused-answer}
+use Rattle.table.proofs.Fitting.{valid_fitting}
+use Rattle.walk.proofs.Answering.{alone_answer, refused_answer}
 use Rattle.walk.proofs.ring_walk.Statement.{statement}
 use Rattle.walk.proofs.ring_walk.Tie as tie
 
@@ -13,7 +13,7 @@ rows-of-requires : tie.Need-rows-of-requires
 rows-of-requires c κs = search rules
 
 returns : tie.Need-returns
-returns c = (refused-answer _ _ _ c.before.rows_of_lem.ensures.number c.if1.true _, refl)
+returns c = (refused_answer _ _ _ c.before.rows_of_lem.ensures.number c.if1.true _, refl)
 
 -- the table is accepted
 free : (c : tie.Else1) → let start = c.before.before.before.before.before in refusal (table start.args.atoms start.args.bonds.now) ≡ 0
@@ -22,7 +22,7 @@ free c = omega (arith, c.before.rows_of_lem.ensures.number, c.if1.false)
 write-walk-requires : tie.Need-write-walk-requires
 write-walk-requires c κs =
     let passed = c.before.before.before.before in
-    (valid-fitting ((accepted _).0 (free passed)), passed.before.rows_of_lem.ensures.accepted (free passed))
+    (valid_fitting ((accepted _).0 (free passed)), passed.before.rows_of_lem.ensures.accepted (free passed))
 
 same_length : tie.Need-same-length
 same_length c = search rules
@@ -33,7 +33,7 @@ same-length-2 c = search rules
 returns-2 : tie.Need-returns-2
 returns-2 c =
     let walked = c.before.before.before.before in
-    (alone-answer _ _ _ (free walked.before.before.before.before.before) _ walked.write-walk.ensures, refl)
+    (alone_answer _ _ _ (free walked.before.before.before.before.before) _ walked.write-walk.ensures, refl)
 
 pub ring-walk-spec : {M : Type 1} → statement M
 ring-walk-spec =

@@ -6,9 +6,9 @@ use native.Mathlib.Omega.{arith}
 use lib.ListN.{length}
 use borrow.Author.Rules.{rules}
 use borrow.Author.Tests.{not-true, not-false, ltb-false}
-use Rattle.definitions.specs.Table.{maxBonds}
-use Rattle.definitions.proofs.Tests.{or-neither}
-use Rattle.walk.proofs.Answering.{stored-length, walked-refused, walked-short, walked-given}
+use Rattle.definitions.specs.Table.{max_bonds}
+use Rattle.definitions.proofs.Tests.{or_neither}
+use Rattle.walk.proofs.Answering.{stored_length, walked_refused, walked_short, walked_given}
 use Rattle.walk.proofs.write_walk.Statement.{statement}
 use Rattle.walk.proofs.write_walk.Tie as tie
 
@@ -19,28 +19,28 @@ size-requires : tie.Need-size-requires
 size-requires c κs = search rules
 
 returns : tie.Need-returns
-returns c = walked-refused c.before.before.walk_of.ensures _ (not-true _ c.if1.true)
+returns c = walked_refused c.before.before.walk_of.ensures _ (not-true _ c.if1.true)
 
 -- one comes round
 comes : (c : tie.Else1) → c.before.before.walk_of.result ≡ true
 comes c = not-false _ c.if1.false
 
 returns-2 : tie.Need-returns-2
-returns-2 c = let came = c.before in walked-short came.before.before.walk_of.ensures _ (comes came) came.before.size.ensures.0 c.if2.true
+returns-2 c = let came = c.before in walked_short came.before.before.walk_of.ensures _ (comes came) came.before.size.ensures.0 c.if2.true
 
 -- what was noted keeps its length
-visited : (c : tie.Else1) → maxBonds ≡ length c.before.before.walk_of.new.1.1.1.0
-visited c = stored-length (c.before.before.walk_of.ensures.visited (comes c))
+visited : (c : tie.Else1) → max_bonds ≡ length c.before.before.walk_of.new.1.1.1.0
+visited c = stored_length (c.before.before.walk_of.ensures.visited (comes c))
 
-crossed : (c : tie.Else1) → maxBonds ≡ length c.before.before.walk_of.new.1.1.1.1.0
-crossed c = stored-length (c.before.before.walk_of.ensures.crossed (comes c))
+crossed : (c : tie.Else1) → max_bonds ≡ length c.before.before.walk_of.new.1.1.1.1.0
+crossed c = stored_length (c.before.before.walk_of.ensures.crossed (comes c))
 
 -- both lists have room
 room : (c : tie.Else2) →
     let start = c.before.before.before.before.before.before.before.before.before in
     let n = c.before.before.size.result in
     (n ≤ length start.args.ring-atoms.now) × (n ≤ length start.args.ring-bonds.now)
-room c = let (h, k) = or-neither _ _ c.if2.false in (ltb-false _ _ h, ltb-false _ _ k)
+room c = let (h, k) = or_neither _ _ c.if2.false in (ltb-false _ _ h, ltb-false _ _ k)
 
 slice-aggregate-copy-bytes : tie.Need-slice-aggregate-copy-bytes
 slice-aggregate-copy-bytes c = visited c.before.before
@@ -69,7 +69,7 @@ returns-3 c =
     let first = c.before.before.before.before.before.before.before in
     let came = first.before.before.before.before in
     let (all, few) = came.before.size.ensures in
-    walked-given came.before.before.walk_of.ensures _ (comes came) all first.before.before.before.if2.false few few first.copy-bytes.ensures c.before.before.copy-bytes2.ensures
+    walked_given came.before.before.walk_of.ensures _ (comes came) all first.before.before.before.if2.false few few first.copy-bytes.ensures c.before.before.copy-bytes2.ensures
 
 pub write-walk-spec : {M : Type 1} → statement M
 write-walk-spec =

@@ -5,8 +5,8 @@ use lib.ListN.{length}
 use Rattle.sets.specs.Ring.{bits, room}
 use Rattle.sets.proofs.Laws.{member_below}
 use Rattle.sets.proofs.Machine.{ring-lt}
-use Rattle.definitions.proofs.Passing.{Passed, passed-next, passed-rises}
-use Rattle.basis.proofs.Writing.{Marked, marked-none, marked_more, marked_all}
+use Rattle.definitions.proofs.Passing.{Passed, passed_next, passed_rises}
+use Rattle.basis.proofs.Writing.{Marked, marked_none, marked_more, marked_all}
 use borrow.Author.Rules.{rules}
 use Rattle.basis.proofs.assembly.number_members.Statement.{statement}
 use Rattle.basis.proofs.assembly.number_members.Tie as tie
@@ -21,7 +21,7 @@ next-requires : tie.Need-next-requires invariant-loop decreases-loop
 next-requires c κs = search rules
 
 loop-holds : tie.Need-loop-init invariant-loop decreases-loop
-loop-holds c = (passed-next c.next.ensures, marked-none _ _ c.next.ensures)
+loop-holds c = (passed_next c.next.ensures, marked_none _ _ c.next.ensures)
 
 -- there is a place for the next member
 place : (c : tie.In-loop invariant-loop decreases-loop) → c.before.loop.i < length c.before.loop.out
@@ -39,12 +39,12 @@ next-requires-2 : tie.Need-next-requires-2 invariant-loop decreases-loop
 next-requires-2 c κs = search rules
 
 loop-less : tie.Need-loop-smaller invariant-loop decreases-loop
-loop-less c = omega (arith, passed-rises c.before.before.loop.invariant.0 (omega arith) c.next2.ensures)
+loop-less c = omega (arith, passed_rises c.before.before.loop.invariant.0 (omega arith) c.next2.ensures)
 
 loop-again : tie.Need-loop-preserved invariant-loop decreases-loop
 loop-again c =
     let at = c.before.before.loop in
-    (passed-next c.next2.ensures, marked_more at.invariant.0 (omega arith) c.next2.ensures (place c.before) at.invariant.1)
+    (passed_next c.next2.ensures, marked_more at.invariant.0 (omega arith) c.next2.ensures (place c.before) at.invariant.1)
 
 same_length : tie.Need-same-length invariant-loop decreases-loop
 same_length c = c.before.loop.invariant.1.long

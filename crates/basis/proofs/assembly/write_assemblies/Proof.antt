@@ -7,7 +7,7 @@ use lib.ListN.{length}
 use Rattle.sets.specs.Bits.{has}
 use Rattle.basis.specs.Held.{AssembliesOf}
 use Rattle.basis.proofs.Holding.{members-at}
-use Rattle.basis.proofs.Writing.{Assigned, assigned-none, assigned-more, assigned-all}
+use Rattle.basis.proofs.Writing.{Assigned, assigned_none, assigned_more, assigned_all}
 use borrow.Author.Rules.{rules}
 use Rattle.basis.proofs.assembly.write_assemblies.Statement.{statement}
 use Rattle.basis.proofs.assembly.write_assemblies.Tie as tie
@@ -19,7 +19,7 @@ abbrev decreases-loop : tie.decreases-loop
 decreases-loop out₀ found a₀ out a = found.count - a
 
 loop-holds : tie.Need-loop-init invariant-loop decreases-loop
-loop-holds c = (refl, λ rs o. assigned-none rs _)
+loop-holds c = (refl, λ rs o. assigned_none rs _)
 
 mul-number-members : tie.Need-overflow-mul-number-members invariant-loop decreases-loop
 mul-number-members c = search rules
@@ -46,13 +46,13 @@ loop-again : tie.Need-loop-preserved invariant-loop decreases-loop
 loop-again c =
     let at = c.before.before.before.before.before.before in
     let told = c.before.before.number-members.ensures in
-    (told.long ∙ at.loop.invariant.0, λ rs o. assigned-more o (omega arith) (at.loop.invariant.1 rs o) told)
+    (told.long ∙ at.loop.invariant.0, λ rs o. assigned_more o (omega arith) (at.loop.invariant.1 rs o) told)
 
 same_length : tie.Need-same-length invariant-loop decreases-loop
 same_length c = c.before.loop.invariant.0
 
 returns : tie.Need-returns invariant-loop decreases-loop
-returns c rs room o = assigned-all o room (omega arith) (c.before.loop.invariant.1 rs o)
+returns c rs room o = assigned_all o room (omega arith) (c.before.loop.invariant.1 rs o)
 
 pub write-assemblies-spec : {M : Type 1} → statement M
 write-assemblies-spec =

@@ -6,20 +6,20 @@ use Prim.Native.Nat.{ℕ, ◌/◌, ◌-◌, ◌*◌, ◌<◌}
 use native.Mathlib.Omega.{arith}
 use lib.ListN.{length}
 use Rattle.sets.specs.Bond.{bits}
-use Rattle.sets.specs.Lists.{setsIn, words}
+use Rattle.sets.specs.Lists.{sets_in, words}
 use Rattle.sets.proofs.Lists.{sets-blank}
-use Rattle.definitions.specs.Table.{Table, table, tail, head, maxAtoms, maxBonds}
+use Rattle.definitions.specs.Table.{Table, table, tail, head, max_atoms, max_bonds}
 use Rattle.definitions.proofs.Refusals.{Valid, accepted}
-use Rattle.table.proofs.Fitting.{valid-fitting, EndAt, ends-inside}
+use Rattle.table.proofs.Fitting.{valid_fitting, EndAt, ends-inside}
 use Rattle.basis.proofs.Holding.{basis-refused, basis-accepted}
-use Rattle.basis.proofs.Leading.{climbed-low}
-use Rattle.basis.proofs.Trying.{Tried, Reached, tried-none, climbs-reached, tried-settled, tried-turn, tried-all}
+use Rattle.basis.proofs.Leading.{climbed_low}
+use Rattle.basis.proofs.Trying.{Tried, Reached, tried_none, climbs_reached, tried_settled, tried_turn, tried_all}
 use borrow.Author.Rules.{rules}
 use Rattle.basis.proofs.basis.basis_of.Statement.{statement}
 use Rattle.basis.proofs.basis.basis_of.Tie as tie
 
 abbrev invariant-loop : tie.invariant-loop
-invariant-loop atoms bonds number lower₀ ways₀ rings₀ count₀ k₀ lower ways rings count k = (length rings ≡ maxBonds * words) × Tried (table atoms bonds) lower (setsIn ways) (setsIn rings) count k
+invariant-loop atoms bonds number lower₀ ways₀ rings₀ count₀ k₀ lower ways rings count k = (length rings ≡ max_bonds * words) × Tried (table atoms bonds) lower (sets_in ways) (sets_in rings) count k
 
 abbrev decreases-loop : tie.decreases-loop
 decreases-loop atoms bonds number lower₀ ways₀ rings₀ count₀ k₀ lower ways rings count k = length bonds / 2 - k
@@ -33,15 +33,15 @@ abbrev read : tie.In-loop invariant-loop decreases-loop → Table
 read c = let start = c.before.before.before.before.before.before in table start.args.atoms start.args.bonds.now
 
 -- the bonds below k are tried
-abbrev tried : (c : tie.In-loop invariant-loop decreases-loop) → Tried (read c) c.before.loop.lower (setsIn c.before.loop.ways) (setsIn c.before.loop.rings) c.before.loop.count c.before.loop.k
+abbrev tried : (c : tie.In-loop invariant-loop decreases-loop) → Tried (read c) c.before.loop.lower (sets_in c.before.loop.ways) (sets_in c.before.loop.rings) c.before.loop.count c.before.loop.k
 tried c = c.before.loop.invariant.1
 
 -- a turn tries one of the bonds, of which there are no more than places
-few : (c : tie.In-loop invariant-loop decreases-loop) → c.before.loop.k < maxBonds
+few : (c : tie.In-loop invariant-loop decreases-loop) → c.before.loop.k < max_bonds
 few c = omega (arith, (valid c.before.before.before).few-bonds)
 
 -- so there is a place for its ring
-free : (c : tie.In-loop invariant-loop decreases-loop) → c.before.loop.count < maxBonds
+free : (c : tie.In-loop invariant-loop decreases-loop) → c.before.loop.count < max_bonds
 free c = omega (arith, few c, (tried c).found.few)
 
 -- from where the bond is summed with the ways: the climb from its head, that from its tail, and the start of the turn
@@ -61,7 +61,7 @@ climb c = c.before.before.before
 -- the ends of the bond
 ends : (c : tie.After-ends-of invariant-loop decreases-loop)
     → EndAt c.ends_of.result.tail (tail (read c.before) c.before.before.loop.k) × EndAt c.ends_of.result.head (head (read c.before) c.before.before.loop.k)
-ends c = ends-inside (valid-fitting (valid c.before.before.before.before)) c.before.loop-test.true c.ends_of.ensures
+ends c = ends-inside (valid_fitting (valid c.before.before.before.before)) c.before.loop-test.true c.ends_of.ensures
 
 -- they are atoms of the table
 low : (c : tie.After-ends-of invariant-loop decreases-loop) → (c.ends_of.result.tail < (read c.before).atoms) × (c.ends_of.result.head < (read c.before).atoms)
@@ -72,7 +72,7 @@ low c =
 -- the first atom is reached from the tail
 one : (c : tie.After-climb-from invariant-loop decreases-loop)
     → Reached (read (turn c)) (turn c).before.loop.lower (turn c).before.loop.k c.before.before.before.ends_of.result.tail c.climb-from.result.atom (bits c.climb-from.result.bonds)
-one c = climbs-reached (tried (turn c)) (low c.before.before.before).0 c.climb-from.ensures
+one c = climbs_reached (tried (turn c)) (low c.before.before.before).0 c.climb-from.ensures
 
 -- the bonds below k are tried, and what was reached before is reached
 abbrev Kept : (c : tie.In-loop invariant-loop decreases-loop) → List ℕ → List ℕ → List ℕ → List ℕ → Type 0
@@ -81,10 +81,10 @@ Kept c old lower ways rings =
     × ((b y v : ℕ) → b < (read c).atoms → Reached (read c) old c.before.loop.k b y v → Reached (read c) lower c.before.loop.k b y v)
 
 -- both hold where the tail leads straight to the first atom
-first : (c : tie.After-settle invariant-loop decreases-loop) → Kept (turn (climb c)) (turn (climb c)).before.loop.lower c.settle.new.0 (setsIn c.settle.new.1.0) (setsIn (turn (climb c)).before.loop.rings)
+first : (c : tie.After-settle invariant-loop decreases-loop) → Kept (turn (climb c)) (turn (climb c)).before.loop.lower c.settle.new.0 (sets_in c.settle.new.1.0) (sets_in (turn (climb c)).before.loop.rings)
 first c =
     let at = turn (climb c) in
-    tried-settled (tried at) (valid at.before.before.before) (low (climb c).before.before.before).0 (one (climb c)) c.settle.ensures.0 c.settle.ensures.1
+    tried_settled (tried at) (valid at.before.before.before) (low (climb c).before.before.before).0 (one (climb c)) c.settle.ensures.0 c.settle.ensures.1
 
 refusal-of-requires : tie.Need-refusal-of-requires invariant-loop decreases-loop
 refusal-of-requires c κs = search rules
@@ -96,7 +96,7 @@ apart-requires : tie.Need-apart-requires invariant-loop decreases-loop
 apart-requires c κs = (valid c).few-atoms
 
 loop-holds : tie.Need-loop-init invariant-loop decreases-loop
-loop-holds c = (refl, tried-none _ _ (search rules) c.apart.ensures.0 c.apart.ensures.1 (sets-blank maxAtoms) (sets-blank maxBonds))
+loop-holds c = (refl, tried_none _ _ (search rules) c.apart.ensures.0 c.apart.ensures.1 (sets-blank max_atoms) (sets-blank max_bonds))
 
 ends-of-requires : tie.Need-ends-of-requires invariant-loop decreases-loop
 ends-of-requires c κs = search rules
@@ -137,8 +137,8 @@ join-requires c κs =
     let both = ends tail.before.before.before in
     omega (
       arith,
-      climbed-low tail.climb-from.ensures.climbed,
-      climbed-low head.climb-from2.ensures.climbed,
+      climbed_low tail.climb-from.ensures.climbed,
+      climbed_low head.climb-from2.ensures.climbed,
       both.0.1,
       both.1.1,
     )
@@ -157,11 +157,11 @@ loop-again c =
     let at = turn tail in
     let both = tail.before.before.before in
     let once = first head.before.before.before in
-    let other = climbs-reached once.0 (low both).1 head.climb-from2.ensures in
+    let other = climbs_reached once.0 (low both).1 head.climb-from2.ensures in
     let settled = round.before.before.settle2.ensures in
-    let twice = tried-settled once.0 (valid at.before.before.before) (low both).1 other settled.0 settled.1 in
+    let twice = tried_settled once.0 (valid at.before.before.before) (low both).1 other settled.0 settled.1 in
     let both =
-    tried-turn twice.0 (valid at.before.before.before) at.loop-test.taken (ends both).0.0
+    tried_turn twice.0 (valid at.before.before.before) at.loop-test.taken (ends both).0.0
     (ends both).1.0 (twice.1 _ _ _ (low both).0 (once.1 _ _ _ (low both).0 (one tail))) (twice.1 _ _ _ (low both).1 other)
     round.before.sum.ensures round.with.ensures
     in
@@ -173,7 +173,7 @@ loop-again c =
 returns-2 : tie.Need-returns-2 invariant-loop decreases-loop
 returns-2 c =
     let start = c.before.before.before in
-    basis-accepted start.before.refusal-of.ensures (omega arith) (tried-all (valid start) c.before.loop.invariant.1 c.loop-test.false)
+    basis-accepted start.before.refusal-of.ensures (omega arith) (tried_all (valid start) c.before.loop.invariant.1 c.loop-test.false)
 
 pub basis-of-spec : {M : Type 1} → statement M
 basis-of-spec =

@@ -4,10 +4,10 @@ use Prim.Native.Nat.{◌≤◌}
 use native.Mathlib.Omega.{arith}
 use borrow.Author.Rules.{rules}
 use Rattle.sets.specs.Bond.{bits}
-use Rattle.sets.specs.Lists.{setsIn}
+use Rattle.sets.specs.Lists.{sets_in}
 use Rattle.sets.proofs.Lists.{sets-whole}
-use Rattle.sets.proofs.Machine.{no-bonds}
-use Rattle.definitions.specs.Table.{maxAtoms}
+use Rattle.sets.proofs.Machine.{no_bonds_lem}
+use Rattle.definitions.specs.Table.{max_atoms}
 use Rattle.basis.specs.Climbing.{Climbed}
 use Rattle.basis.specs.Climbing.Climbed.{start}
 use Rattle.basis.proofs.Leading.{climbed-on, climbed-last}
@@ -15,13 +15,13 @@ use Rattle.basis.proofs.climb.climb_from.Statement.{statement}
 use Rattle.basis.proofs.climb.climb_from.Tie as tie
 
 abbrev invariant-loop : tie.invariant-loop
-invariant-loop lower ways atom a₀ bonds₀ a bonds = (a ≤ atom) × Climbed lower (setsIn ways) atom a (bits bonds)
+invariant-loop lower ways atom a₀ bonds₀ a bonds = (a ≤ atom) × Climbed lower (sets_in ways) atom a (bits bonds)
 
 abbrev decreases-loop : tie.decreases-loop
 decreases-loop lower ways atom a₀ bonds₀ a bonds = a
 
 loop-holds : tie.Need-loop-init invariant-loop decreases-loop
-loop-holds c = (omega arith, subst⁻¹ (Climbed _ _ _ _) no-bonds start)
+loop-holds c = (omega arith, subst⁻¹ (Climbed _ _ _ _) no_bonds_lem start)
 
 mul-if1 : tie.Need-overflow-mul-if1 invariant-loop decreases-loop
 mul-if1 c = search rules
@@ -30,7 +30,7 @@ element-copy-out-if1 : tie.Need-element-copy-out-if1 invariant-loop decreases-lo
 element-copy-out-if1 c = search rules
 
 at-requires : tie.Need-at-requires invariant-loop decreases-loop
-at-requires c κs = omega (arith, sets-whole maxAtoms c.before.before.before.before.args.ways.now (search rules))
+at-requires c κs = omega (arith, sets-whole max_atoms c.before.before.before.before.args.ways.now (search rules))
 
 sum-requires : tie.Need-sum-requires invariant-loop decreases-loop
 sum-requires c κs = search rules

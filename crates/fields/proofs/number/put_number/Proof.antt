@@ -3,8 +3,8 @@ use mathlib.Core.Path.{sym, ◌∙◌}
 use Prim.Native.Nat.{◌-◌}
 use native.Mathlib.Omega.{arith}
 use Rattle.definitions.specs.Label.{bytes_of}
-use Rattle.lent.proofs.Appending.{Spelt, spelt-none, spelt-more, spelt-all, spelt-length}
-use Rattle.fields.proofs.Bytes.{length-bytesOf, byte_at}
+use Rattle.lent.proofs.Appending.{Spelt, spelt_none, spelt_more, spelt_all, spelt_length}
+use Rattle.fields.proofs.Bytes.{length-bytes_of, byte_at}
 use borrow.Author.Rules.{rules}
 use Rattle.fields.proofs.number.put_number.Statement.{statement}
 use Rattle.fields.proofs.number.put_number.Tie as tie
@@ -16,7 +16,7 @@ abbrev decreases-loop : tie.decreases-loop
 decreases-loop width number out₀ at i₀ out i = width - i
 
 loop-holds : tie.Need-loop-init invariant-loop decreases-loop
-loop-holds c = let a = c.before.args in spelt-none _ _ _ (omega (arith, length-bytesOf a.width a.number))
+loop-holds c = let a = c.before.args in spelt_none _ _ _ (omega (arith, length-bytes_of a.width a.number))
 
 sub-k : tie.Need-overflow-sub-k invariant-loop decreases-loop
 sub-k c = search rules
@@ -31,7 +31,7 @@ add-out : tie.Need-overflow-add-out invariant-loop decreases-loop
 add-out c = search rules
 
 slice-write-out : tie.Need-slice-write-out invariant-loop decreases-loop
-slice-write-out c = omega (arith, spelt-length c.before.before.loop.invariant)
+slice-write-out c = omega (arith, spelt_length c.before.before.loop.invariant)
 
 add-i : tie.Need-overflow-add-i invariant-loop decreases-loop
 add-i c = search rules
@@ -43,17 +43,17 @@ loop-again : tie.Need-loop-preserved invariant-loop decreases-loop
 loop-again c =
     let a = c.before.before.before.before.args in
     let i = c.before.before.loop.i in
-    spelt-more c.before.before.loop.invariant (omega (arith, length-bytesOf a.width a.number))
+    spelt_more c.before.before.loop.invariant (omega (arith, length-bytes_of a.width a.number))
     (c.byte_of.ensures ∙ sym (byte_at a.width a.number i (omega arith)))
 
 add-result : tie.Need-overflow-add-result invariant-loop decreases-loop
 add-result c = search rules
 
 same_length : tie.Need-same-length invariant-loop decreases-loop
-same_length c = spelt-length c.before.loop.invariant
+same_length c = spelt_length c.before.loop.invariant
 
 returns : tie.Need-returns invariant-loop decreases-loop
-returns c = spelt-all c.before.loop.invariant (sym (length-bytesOf _ _)) (omega arith)
+returns c = spelt_all c.before.loop.invariant (sym (length-bytes_of _ _)) (omega arith)
 
 pub put-number-spec : {M : Type 1} → statement M
 put-number-spec =

@@ -4,8 +4,8 @@ use Prim.Native.Nat.{◌-◌, ◌≤◌}
 use native.Mathlib.Omega.{arith}
 use lib.ListN.{length, get_or}
 use Rattle.definitions.specs.Label.{bytes_of}
-use Rattle.lent.proofs.Appending.{appended-as, Strung, strung-none, strung-more, strung-all, strung-room, strung-length}
-use Rattle.fields.proofs.Bytes.{length-bytesOf, bytesOfAll-gather}
+use Rattle.lent.proofs.Appending.{appended_as, Strung, strung_none, strung_more, strung_all, strung_room, strung_length}
+use Rattle.fields.proofs.Bytes.{length-bytes_of, bytes_of_all-gather}
 use borrow.Author.Rules.{rules}
 use Rattle.fields.proofs.number.put_numbers.Statement.{statement}
 use Rattle.fields.proofs.number.put_numbers.Tie as tie
@@ -20,7 +20,7 @@ loop-holds : tie.Need-loop-init invariant-loop decreases-loop
 loop-holds c =
     let a = c.before.before.args in
     let h : a.n ≤ length a.numbers.now = c.before.before.requires.1 in
-    strung-none _ _ _ _ (rw (bytesOfAll-gather a.width a.numbers.now a.n h) at c.before.before.requires.2)
+    strung_none _ _ _ _ (rw (bytes_of_all-gather a.width a.numbers.now a.n h) at c.before.before.requires.2)
 
 mul-put-number : tie.Need-overflow-mul-put-number invariant-loop decreases-loop
 mul-put-number c = search rules
@@ -32,7 +32,7 @@ put-number-requires : tie.Need-put-number-requires invariant-loop decreases-loop
 put-number-requires c κs =
     let a = c.before.before.before.before.before.before.args in
     let l = c.before.before.before.loop in
-    (search rules, omega (arith, strung-room l.invariant (search rules), length-bytesOf a.width (get_or a.numbers.now l.i 0)))
+    (search rules, omega (arith, strung_room l.invariant (search rules), length-bytes_of a.width (get_or a.numbers.now l.i 0)))
 
 add-i : tie.Need-overflow-add-i invariant-loop decreases-loop
 add-i c = search rules
@@ -41,13 +41,13 @@ loop-less : tie.Need-loop-smaller invariant-loop decreases-loop
 loop-less c = search rules
 
 loop-again : tie.Need-loop-preserved invariant-loop decreases-loop
-loop-again c = strung-more c.before.before.before.before.before.before.loop.invariant (omega arith) c.before.before.put-number.ensures
+loop-again c = strung_more c.before.before.before.before.before.before.loop.invariant (omega arith) c.before.before.put-number.ensures
 
 same_length : tie.Need-same-length invariant-loop decreases-loop
-same_length c = strung-length c.before.loop.invariant
+same_length c = strung_length c.before.loop.invariant
 
 returns : tie.Need-returns invariant-loop decreases-loop
-returns c = appended-as (sym (bytesOfAll-gather _ _ _ c.before.before.before.before.requires.1)) (strung-all c.before.loop.invariant (omega arith))
+returns c = appended_as (sym (bytes_of_all-gather _ _ _ c.before.before.before.before.requires.1)) (strung_all c.before.loop.invariant (omega arith))
 
 pub put-numbers-spec : {M : Type 1} → statement M
 put-numbers-spec =

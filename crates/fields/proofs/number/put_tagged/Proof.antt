@@ -3,7 +3,7 @@ use mathlib.Core.Path.{◌∙◌}
 use Prim.Native.Nat.{◌<◌}
 use native.Mathlib.Omega.{arith}
 use lib.ListN.{length, length-set}
-use Rattle.lent.proofs.Appending.{appended-byte, appended-more}
+use Rattle.lent.proofs.Appending.{appended_byte, appended_more}
 use borrow.Author.Rules.{rules}
 use Rattle.fields.proofs.number.put_tagged.Statement.{statement}
 use Rattle.fields.proofs.number.put_tagged.Tie as tie
@@ -24,7 +24,7 @@ returns : tie.Need-returns
 returns c =
     let s = c.before.before.before.before.before in
     let h : s.args.at < length s.args.out.now = omega arith in
-    appended-more (omega arith) (appended-byte s.args.out.now s.args.at s.args.tag h) c.before.before.put-number.ensures
+    appended_more (omega arith) (appended_byte s.args.out.now s.args.at s.args.tag h) c.before.before.put-number.ensures
 
 pub put-tagged-spec : {M : Type 1} → statement M
 put-tagged-spec =

@@ -1,7 +1,7 @@
 -- Before each turn the lines of the sizes below are added up. Assumes nothing.
 use Prim.Native.Nat.{◌-◌}
 use native.Mathlib.Omega.{arith}
-use Rattle.labels.proofs.Counting.{Measured, measured-none, measured-more, measured-all}
+use Rattle.labels.proofs.Counting.{Measured, measured_none, measured_more, measured_all}
 use borrow.Author.Rules.{rules}
 use Rattle.labels.proofs.histogram.histogram_bytes.Statement.{statement}
 use Rattle.labels.proofs.histogram.histogram_bytes.Tie as tie
@@ -13,7 +13,7 @@ abbrev decreases-loop : tie.decreases-loop
 decreases-loop width counts top bytes₀ size₀ bytes size = top - size
 
 loop-holds : tie.Need-loop-init invariant-loop decreases-loop
-loop-holds c = measured-none _ _ _
+loop-holds c = measured_none _ _ _
 
 mul-line-bytes : tie.Need-overflow-mul-line-bytes invariant-loop decreases-loop
 mul-line-bytes c = search rules
@@ -34,10 +34,10 @@ loop-less : tie.Need-loop-smaller invariant-loop decreases-loop
 loop-less c = search rules
 
 loop-again : tie.Need-loop-preserved invariant-loop decreases-loop
-loop-again c = measured-more c.before.before.before.loop.invariant (omega arith) (c.line-bytes.ensures.0 _) c.line-bytes.ensures.1
+loop-again c = measured_more c.before.before.before.loop.invariant (omega arith) (c.line-bytes.ensures.0 _) c.line-bytes.ensures.1
 
 returns : tie.Need-returns invariant-loop decreases-loop
-returns c = measured-all c.before.loop.invariant c.before.before.requires.1 (omega arith)
+returns c = measured_all c.before.loop.invariant c.before.before.requires.1 (omega arith)
 
 pub histogram-bytes-spec : {M : Type 1} → statement M
 histogram-bytes-spec =

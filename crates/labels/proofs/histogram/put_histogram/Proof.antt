@@ -3,8 +3,8 @@ use Prim.Native.Nat.{◌-◌}
 use native.Mathlib.Omega.{arith}
 use lib.ListN.{get_or}
 use Rattle.labels.specs.Sizes.{line}
-use Rattle.lent.proofs.Appending.{Strung, strung-none, strung-more, strung-all, strung-room, strung-length, appended-as}
-use Rattle.labels.proofs.Counting.{lines-below, lines-room}
+use Rattle.lent.proofs.Appending.{Strung, strung_none, strung_more, strung_all, strung_room, strung_length, appended_as}
+use Rattle.labels.proofs.Counting.{lines_below, lines-room}
 use borrow.Author.Rules.{rules}
 use Rattle.labels.proofs.histogram.put_histogram.Statement.{statement}
 use Rattle.labels.proofs.histogram.put_histogram.Tie as tie
@@ -16,7 +16,7 @@ abbrev decreases-loop : tie.decreases-loop
 decreases-loop width counts top out₀ at next₀ size₀ out next size = top - size
 
 loop-holds : tie.Need-loop-init invariant-loop decreases-loop
-loop-holds c = strung-none _ _ _ _ (lines-room _ _ c.before.requires.1 c.before.requires.2)
+loop-holds c = strung_none _ _ _ _ (lines-room _ _ c.before.requires.1 c.before.requires.2)
 
 mul-put-line : tie.Need-overflow-mul-put-line invariant-loop decreases-loop
 mul-put-line c = search rules
@@ -25,7 +25,7 @@ element-copy-out-put-line : tie.Need-element-copy-out-put-line invariant-loop de
 element-copy-out-put-line c = search rules
 
 put-line-requires : tie.Need-put-line-requires invariant-loop decreases-loop
-put-line-requires c κs = (search rules, search rules, strung-room c.before.before.before.loop.invariant (search rules))
+put-line-requires c κs = (search rules, search rules, strung_room c.before.before.before.loop.invariant (search rules))
 
 add-size : tie.Need-overflow-add-size invariant-loop decreases-loop
 add-size c = search rules
@@ -34,13 +34,13 @@ loop-less : tie.Need-loop-smaller invariant-loop decreases-loop
 loop-less c = search rules
 
 loop-again : tie.Need-loop-preserved invariant-loop decreases-loop
-loop-again c = strung-more c.before.before.before.before.before.before.loop.invariant (omega arith) c.before.before.put-line.ensures
+loop-again c = strung_more c.before.before.before.before.before.before.loop.invariant (omega arith) c.before.before.put-line.ensures
 
 same_length : tie.Need-same-length invariant-loop decreases-loop
-same_length c = strung-length c.before.loop.invariant
+same_length c = strung_length c.before.loop.invariant
 
 returns : tie.Need-returns invariant-loop decreases-loop
-returns c = appended-as (lines-below _ c.before.before.before.requires.1) (strung-all c.before.loop.invariant (omega arith))
+returns c = appended_as (lines_below _ c.before.before.before.requires.1) (strung_all c.before.loop.invariant (omega arith))
 
 pub put-histogram-spec : {M : Type 1} → statement M
 put-histogram-spec =

@@ -1,7 +1,7 @@
 -- Nothing, or one byte and the count after it. Assumes nothing.
 use mathlib.Core.Path.{◌≡◌, sym}
 use native.Mathlib.Omega.{arith}
-use Rattle.lent.proofs.Appending.{appended-none, appended-as}
+use Rattle.lent.proofs.Appending.{appended_none, appended_as}
 use Rattle.labels.proofs.Counting.{line-none, line-some, length-line-some}
 use borrow.Author.Rules.{rules}
 use Rattle.labels.proofs.histogram.put_line.Statement.{statement}
@@ -10,7 +10,7 @@ use Rattle.labels.proofs.histogram.put_line.Tie as tie
 returns : tie.Need-returns
 returns c =
     let none : c.before.before.args.count ≡ 0 = omega arith in
-    appended-as (sym (line-none _ _ none)) (appended-none _ _)
+    appended_as (sym (line-none _ _ none)) (appended_none _ _)
 
 cast-put-tagged : tie.Need-overflow-cast-put-tagged
 cast-put-tagged c = search rules
@@ -26,7 +26,7 @@ same_length c = search rules
 returns-2 : tie.Need-returns-2
 returns-2 c =
     let s = c.before.before.before.before.before.before in
-    appended-as (sym (line-some _ _ (λ (e : s.args.count ≡ 0). omega arith))) c.before.before.put-tagged.ensures
+    appended_as (sym (line-some _ _ (λ (e : s.args.count ≡ 0). omega arith))) c.before.before.put-tagged.ensures
 
 pub put-line-spec : {M : Type 1} → statement M
 put-line-spec =

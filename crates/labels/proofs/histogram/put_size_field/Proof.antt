@@ -1,6 +1,6 @@
 -- The histogram follows the room for a head, which then tells its bytes. Assumes nothing.
 use native.Mathlib.Omega.{arith}
-use Rattle.fields.proofs.Tagging.{head-fits, body-fits, field-before}
+use Rattle.fields.proofs.Tagging.{head-fits, body_fits, field-before}
 use borrow.Author.Rules.{rules}
 use Rattle.labels.proofs.histogram.put_size_field.Statement.{statement}
 use Rattle.labels.proofs.histogram.put_size_field.Tie as tie
@@ -12,7 +12,7 @@ put-histogram-requires : tie.Need-put-histogram-requires
 put-histogram-requires c κs =
     let s = c.before.before in
     let a = s.args in
-    (s.requires.0, s.requires.1, body-fits a.out.now _ _ _ s.requires.2)
+    (s.requires.0, s.requires.1, body_fits a.out.now _ _ _ s.requires.2)
 
 sub-put-head : tie.Need-overflow-sub-put-head
 sub-put-head c = search rules

@@ -3,34 +3,34 @@ use mathlib.Core.List.{List, [], ◌∷◌, ◌++◌}
 use Prim.Native.Nat.{ℕ}
 use native.Mathlib.Omega.{arith}
 use lib.ListN.{take}
-use Rattle.definitions.specs.Label.{bytesOfAll, field, frerejacqueTag, ringsTag, smallestTag, assembliesTag}
+use Rattle.definitions.specs.Label.{bytes_of_all, field, frerejacque_tag, rings_tag, smallest_tag, assemblies_tag}
 use Rattle.labels.specs.Sizes.{lines}
-use Rattle.labels.specs.Text.{labelBytes}
-use Rattle.lent.proofs.Appending.{Begun, begun-none, begun-room, begun_more}
+use Rattle.labels.specs.Text.{label_bytes}
+use Rattle.lent.proofs.Appending.{Begun, begun_none, begun_room, begun_more}
 use borrow.Author.Rules.{rules}
 use Rattle.labels.proofs.text.put_fields.Statement.{statement}
 use Rattle.labels.proofs.text.put_fields.Tie as tie
 
 -- the four fields
 abbrev first : tie.Start → List ℕ
-first s = field frerejacqueTag (bytesOfAll 1 (s.args.numbers.frerejacque ∷ []))
+first s = field frerejacque_tag (bytes_of_all 1 (s.args.numbers.frerejacque ∷ []))
 
 abbrev rings : tie.Start → List ℕ
-rings s = field ringsTag (lines 2 s.args.rings.now)
+rings s = field rings_tag (lines 2 s.args.rings.now)
 
 abbrev smallest : tie.Start → List ℕ
-smallest s = field smallestTag (lines 1 s.args.smallest.now)
+smallest s = field smallest_tag (lines 1 s.args.smallest.now)
 
 abbrev pairs : tie.Start → List ℕ
-pairs s = field assembliesTag (bytesOfAll 2 (take s.args.numbers.pairs s.args.pairs.now))
+pairs s = field assemblies_tag (bytes_of_all 2 (take s.args.numbers.pairs s.args.pairs.now))
 
 -- the text is written as far as the fields that are left
 abbrev Left : tie.Start → List ℕ → List ℕ → ℕ → Type 0
 Left s rest out at = Begun (first s ++ (rings s ++ (smallest s ++ pairs s))) s.args.out.now rest out at
 
 at-start : (s : tie.Start) → Left s (first s ++ (rings s ++ (smallest s ++ pairs s))) s.args.out.now 0
-unfolding labelBytes
-at-start s = begun-none _ _ s.requires.3
+unfolding label_bytes
+at-start s = begun_none _ _ s.requires.3
 
 -- the start of the function, seen from after each call
 abbrev start₁ : tie.After-put-number-field → tie.Start
@@ -66,19 +66,19 @@ slice-aggregate-put-number-field c = search rules
 put-number-field-requires : tie.Need-put-number-field-requires
 put-number-field-requires c κs =
     let s = c.before.before.before.before in
-    (omega arith, omega arith, begun-room (first s) (rings s ++ (smallest s ++ pairs s)) (at-start s))
+    (omega arith, omega arith, begun_room (first s) (rings s ++ (smallest s ++ pairs s)) (at-start s))
 
 put-size-field-requires : tie.Need-put-size-field-requires
 put-size-field-requires c κs =
     let p = c.before.before.before in
     let s = start₁ p in
-    (omega arith, s.pre.0, begun-room (rings s) (smallest s ++ pairs s) (after_first p))
+    (omega arith, s.pre.0, begun_room (rings s) (smallest s ++ pairs s) (after_first p))
 
 put-size-field-requires-2 : tie.Need-put-size-field-requires-2
 put-size-field-requires-2 c κs =
     let p = c.before.before.before in
     let s = start₂ p in
-    (omega arith, s.pre.1, begun-room (smallest s) (pairs s) (after-rings p))
+    (omega arith, s.pre.1, begun_room (smallest s) (pairs s) (after-rings p))
 
 put-number-field-requires-2 : tie.Need-put-number-field-requires-2
 put-number-field-requires-2 c κs =
@@ -89,7 +89,7 @@ same_length : tie.Need-same-length
 same_length c = search rules
 
 returns : tie.Need-returns
-unfolding labelBytes
+unfolding label_bytes
 returns c = (after-smallest c.before.before.before.before.before.before).ends _ _ c.before.before.put-number-field2.ensures
 
 pub put-fields-spec : {M : Type 1} → statement M

@@ -1,7 +1,7 @@
 -- The two digits stand one after the other. Assumes nothing.
 use native.Mathlib.Omega.{arith}
 use lib.ListN.{length-set}
-use Rattle.records.proofs.Writing.{appended-hex}
+use Rattle.records.proofs.Writing.{appended_hex}
 use borrow.Author.Rules.{rules}
 use Rattle.records.proofs.text.put_byte.Statement.{statement}
 use Rattle.records.proofs.text.put_byte.Tie as tie
@@ -28,7 +28,7 @@ same_length : tie.Need-same-length
 same_length c = search rules
 
 returns : tie.Need-returns
-returns c = let a = c.before.before.before.args in appended-hex _ a.at a.byte (omega arith) c.before.glyph.ensures c.glyph2.ensures
+returns c = let a = c.before.before.before.args in appended_hex _ a.at a.byte (omega arith) c.before.glyph.ensures c.glyph2.ensures
 
 pub put-byte-spec : {M : Type 1} → statement M
 put-byte-spec =

@@ -2,7 +2,7 @@
 use mathlib.Core.Path.{ap, ◌∙◌}
 use native.Mathlib.Omega.{arith}
 use lib.ListN.{length}
-use Rattle.lent.proofs.Appending.{appended-as}
+use Rattle.lent.proofs.Appending.{appended_as}
 use Rattle.records.proofs.Digits.{digits_decimal}
 use borrow.Author.Rules.{rules}
 use Rattle.records.proofs.text.put_decimal.Statement.{statement}
@@ -28,7 +28,7 @@ same_length c = search rules
 returns : tie.Need-returns
 returns c =
     let d = c.before.before.before.before.before.decimal in
-    appended-as (d.ensures.1.1 ∙ digits_decimal d.result _ d.ensures.1.0) c.before.before.put-text.ensures
+    appended_as (d.ensures.1.1 ∙ digits_decimal d.result _ d.ensures.1.0) c.before.before.put-text.ensures
 
 pub put-decimal-spec : {M : Type 1} → statement M
 put-decimal-spec =

@@ -5,7 +5,7 @@ use Prim.Native.Nat.{◌-◌}
 use native.Mathlib.Omega.{arith}
 use lib.ListN.{length, get_or}
 use Rattle.definitions.specs.Text.{hex}
-use Rattle.lent.proofs.Appending.{Strung, strung-none, strung-more, strung-all, strung-room, strung-length, appended-as}
+use Rattle.lent.proofs.Appending.{Strung, strung_none, strung_more, strung_all, strung_room, strung_length, appended_as}
 use Rattle.records.proofs.Digits.{hex-gather}
 use borrow.Author.Rules.{rules}
 use Rattle.records.proofs.text.put_hex.Statement.{statement}
@@ -18,14 +18,14 @@ abbrev decreases-loop : tie.decreases-loop
 decreases-loop bytes n out₀ at next₀ i₀ out next i = n - i
 
 loop-holds : tie.Need-loop-init invariant-loop decreases-loop
-loop-holds c = let a = c.before.before.args in strung-none _ _ _ _ (omega (arith, ap length (hex-gather a.bytes.now a.n (omega arith))))
+loop-holds c = let a = c.before.before.args in strung_none _ _ _ _ (omega (arith, ap length (hex-gather a.bytes.now a.n (omega arith))))
 
 shared-slice-read-put-byte : tie.Need-shared-slice-read-put-byte invariant-loop decreases-loop
 shared-slice-read-put-byte c = search rules
 
 put-byte-requires : tie.Need-put-byte-requires invariant-loop decreases-loop
 unfolding hex
-put-byte-requires c κs = omega (arith, strung-room c.before.before.before.loop.invariant (omega arith))
+put-byte-requires c κs = omega (arith, strung_room c.before.before.before.loop.invariant (omega arith))
 
 add-i : tie.Need-overflow-add-i invariant-loop decreases-loop
 add-i c = search rules
@@ -34,15 +34,15 @@ loop-less : tie.Need-loop-smaller invariant-loop decreases-loop
 loop-less c = search rules
 
 loop-again : tie.Need-loop-preserved invariant-loop decreases-loop
-loop-again c = strung-more c.before.before.before.before.before.before.loop.invariant (omega arith) c.before.before.put_byte.ensures
+loop-again c = strung_more c.before.before.before.before.before.before.loop.invariant (omega arith) c.before.before.put_byte.ensures
 
 same_length : tie.Need-same-length invariant-loop decreases-loop
-same_length c = strung-length c.before.loop.invariant
+same_length c = strung_length c.before.loop.invariant
 
 returns : tie.Need-returns invariant-loop decreases-loop
 returns c =
     let a = c.before.before.before.before.args in
-    appended-as (sym (hex-gather a.bytes.now a.n (omega arith))) (strung-all c.before.loop.invariant (omega arith))
+    appended_as (sym (hex-gather a.bytes.now a.n (omega arith))) (strung_all c.before.loop.invariant (omega arith))
 
 pub put-hex-spec : {M : Type 1} → statement M
 put-hex-spec =

@@ -1,6 +1,6 @@
 -- The space stands after the number. Assumes nothing.
 use native.Mathlib.Omega.{arith}
-use Rattle.lent.proofs.Appending.{appended-more}
+use Rattle.lent.proofs.Appending.{appended_more}
 use Rattle.records.specs.Spaced.{spaced}
 use Rattle.records.proofs.Writing.{length-spaced}
 use borrow.Author.Rules.{rules}
@@ -22,7 +22,7 @@ same_length c = search rules
 returns : tie.Need-returns
 unfolding spaced
 returns c =
-    appended-more (omega arith) c.before.before.before.before.before.before.before.put-decimal.ensures c.before.before.put-text.ensures
+    appended_more (omega arith) c.before.before.before.before.before.before.before.put-decimal.ensures c.before.before.put-text.ensures
 
 pub put-spaced-spec : {M : Type 1} → statement M
 put-spaced-spec =

@@ -3,15 +3,15 @@ use mathlib.Core.Path.{◌≡◌, refl, ◌∙◌}
 use Prim.Native.Nat.{◌-◌}
 use native.Mathlib.Omega.{arith}
 use lib.ListN.{length}
-use Rattle.sets.specs.Lists.{setsIn}
+use Rattle.sets.specs.Lists.{sets_in}
 use Rattle.sets.proofs.Lists.{sets-length}
-use Rattle.reduced.proofs.Underway.{AlongTo, along-none, along-more, along-all}
+use Rattle.reduced.proofs.Underway.{AlongTo, along-none, along_more, along_all}
 use borrow.Author.Rules.{rules}
 use Rattle.reduced.proofs.sweep.along.Statement.{statement}
 use Rattle.reduced.proofs.sweep.along.Tie as tie
 
 abbrev invariant-loop : tie.invariant-loop
-invariant-loop sets₀ j changed₀ i₀ i-end sets changed i = (length sets ≡ length sets₀) × AlongTo j (setsIn sets₀) (setsIn sets) changed i
+invariant-loop sets₀ j changed₀ i₀ i-end sets changed i = (length sets ≡ length sets₀) × AlongTo j (sets_in sets₀) (sets_in sets) changed i
 
 abbrev decreases-loop : tie.decreases-loop
 decreases-loop sets₀ j changed₀ i₀ i-end sets changed i = i-end - i
@@ -38,13 +38,13 @@ loop-again : tie.Need-loop-preserved invariant-loop decreases-loop
 loop-again c =
     let step = c.before.before.exchange.ensures in
     let inv = c.before.before.before.before.before.loop.invariant in
-    (step.0 ∙ inv.0, along-more _ _ _ _ inv.1 (omega arith) step.1)
+    (step.0 ∙ inv.0, along_more _ _ _ _ inv.1 (omega arith) step.1)
 
 same_length : tie.Need-same-length invariant-loop decreases-loop
 same_length c = c.before.loop.invariant.0
 
 returns : tie.Need-returns invariant-loop decreases-loop
-returns c = (c.before.loop.invariant.0, along-all _ _ _ c.before.loop.invariant.1 (omega arith))
+returns c = (c.before.loop.invariant.0, along_all _ _ _ c.before.loop.invariant.1 (omega arith))
 
 pub along-spec : {M : Type 1} → statement M
 along-spec =

@@ -3,14 +3,14 @@ use mathlib.Core.Path.{◌≡◌, refl, ◌∙◌}
 use Prim.Native.Nat.{◌-◌}
 use native.Mathlib.Omega.{arith}
 use lib.ListN.{length}
-use Rattle.sets.specs.Lists.{setsIn}
-use Rattle.reduced.proofs.Underway.{AcrossTo, across-none, across-more, across-all}
+use Rattle.sets.specs.Lists.{sets_in}
+use Rattle.reduced.proofs.Underway.{AcrossTo, across-none, across_more, across_all}
 use borrow.Author.Rules.{rules}
 use Rattle.reduced.proofs.sweep.sweep.Statement.{statement}
 use Rattle.reduced.proofs.sweep.sweep.Tie as tie
 
 abbrev invariant-loop : tie.invariant-loop
-invariant-loop sets₀ changed₀ j₀ j-end sets changed j = (length sets ≡ length sets₀) × AcrossTo (setsIn sets₀) (setsIn sets) changed j
+invariant-loop sets₀ changed₀ j₀ j-end sets changed j = (length sets ≡ length sets₀) × AcrossTo (sets_in sets₀) (sets_in sets) changed j
 
 abbrev decreases-loop : tie.decreases-loop
 decreases-loop sets₀ changed₀ j₀ j-end sets changed j = j-end - j
@@ -34,13 +34,13 @@ loop-again : tie.Need-loop-preserved invariant-loop decreases-loop
 loop-again c =
     let step = c.before.before.along.ensures in
     let inv = c.before.before.before.before.before.loop.invariant in
-    (step.0 ∙ inv.0, across-more _ _ _ inv.1 (omega arith) step.1)
+    (step.0 ∙ inv.0, across_more _ _ _ inv.1 (omega arith) step.1)
 
 same_length : tie.Need-same-length invariant-loop decreases-loop
 same_length c = c.before.loop.invariant.0
 
 returns : tie.Need-returns invariant-loop decreases-loop
-returns c = (c.before.loop.invariant.0, across-all _ _ c.before.loop.invariant.1 (omega arith))
+returns c = (c.before.loop.invariant.0, across_all _ _ c.before.loop.invariant.1 (omega arith))
 
 pub sweep-spec : {M : Type 1} → statement M
 sweep-spec =

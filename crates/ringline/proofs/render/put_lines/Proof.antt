@@ -4,7 +4,7 @@ use mathlib.Core.Path.{sym, ◌∙◌}
 use Prim.Native.Nat.{◌-◌}
 use native.Mathlib.Omega.{arith}
 use lib.ListN.{length}
-use Rattle.ringline.proofs.Printing.{Printed, printed-none, printed-room, printed-few, printed-more, printed-all, printed-length, printed-within}
+use Rattle.ringline.proofs.Printing.{Printed, printed_none, printed_room, printed_few, printed_more, printed_all, printed_length, printed_within}
 use Rattle.records.proofs.Records.{whole-fits}
 use borrow.Author.Rules.{rules}
 use Rattle.ringline.proofs.render.put_lines.Statement.{statement}
@@ -17,7 +17,7 @@ abbrev decreases-loop : tie.decreases-loop
 decreases-loop input out₀ at number₀ from₀ next₀ out number from next = length input - from
 
 loop-holds : tie.Need-loop-init invariant-loop decreases-loop
-loop-holds c = printed-none _ _ _ (omega arith)
+loop-holds c = printed_none _ _ _ (omega arith)
 
 sub-whole : tie.Need-overflow-sub-whole invariant-loop decreases-loop
 sub-whole c = search rules
@@ -44,7 +44,7 @@ put-record-requires : tie.Need-put-record-requires invariant-loop decreases-loop
 put-record-requires c κs =
     let p = c.before.before.before.before.before.loop.invariant in
     let w = sym c.before.before.before.whole.ensures ∙ c.before.before.if1.true in
-    (printed-few p (omega arith), w, printed-room p w)
+    (printed_few p (omega arith), w, printed_room p w)
 
 record-bytes-requires : tie.Need-record-bytes-requires invariant-loop decreases-loop
 record-bytes-requires c κs =
@@ -54,7 +54,7 @@ record-bytes-requires c κs =
 add-from : tie.Need-overflow-add-from invariant-loop decreases-loop
 add-from c =
     let turn = c.before.before.before.before.before.before in
-    omega (arith, printed-within turn.before.before.before.loop.invariant (sym turn.before.whole.ensures ∙ turn.if1.true))
+    omega (arith, printed_within turn.before.before.before.loop.invariant (sym turn.before.whole.ensures ∙ turn.if1.true))
 
 add-number : tie.Need-overflow-add-number invariant-loop decreases-loop
 add-number c = search rules
@@ -62,28 +62,28 @@ add-number c = search rules
 loop-less : tie.Need-loop-smaller invariant-loop decreases-loop
 loop-less c =
     let turn = c.before.before.before.before.before.before in
-    omega (arith, printed-within turn.before.before.before.loop.invariant (sym turn.before.whole.ensures ∙ turn.if1.true))
+    omega (arith, printed_within turn.before.before.before.loop.invariant (sym turn.before.whole.ensures ∙ turn.if1.true))
 
 loop-again : tie.Need-loop-preserved invariant-loop decreases-loop
 loop-again c =
     let turn = c.before.before.before.before.before.before in
     let put = c.before.before.before.put_record.ensures in
-    printed-more turn.before.before.before.loop.invariant (sym turn.before.whole.ensures ∙ turn.if1.true) put.0 put.1 c.record-bytes.ensures
+    printed_more turn.before.before.before.loop.invariant (sym turn.before.whole.ensures ∙ turn.if1.true) put.0 put.1 c.record-bytes.ensures
 
 put-last-requires : tie.Need-put-last-requires invariant-loop decreases-loop
 put-last-requires c κs =
     let p = c.before.before.before.before.loop.invariant in
-    (p.first, printed-few p (omega arith), omega (arith, printed-length p, p.room))
+    (p.first, printed_few p (omega arith), omega (arith, printed_length p, p.room))
 
 same_length : tie.Need-same-length invariant-loop decreases-loop
 same_length c =
     let last = c.before.before.before.before in
-    c.before.before.put_last.auto.1.1.0 ∙ printed-length last.before.before.before.loop.invariant
+    c.before.before.put_last.auto.1.1.0 ∙ printed_length last.before.before.before.loop.invariant
 
 returns : tie.Need-returns invariant-loop decreases-loop
 returns c =
     let last = c.before.before.before.before in
-    printed-all last.before.before.before.loop.invariant (sym last.before.whole.ensures ∙ last.if1.false) c.before.before.put_last.ensures
+    printed_all last.before.before.before.loop.invariant (sym last.before.whole.ensures ∙ last.if1.false) c.before.before.put_last.ensures
 
 pub put-lines-spec : {M : Type 1} → statement M
 put-lines-spec =

@@ -4,11 +4,11 @@ use mathlib.Core.Path.{ap}
 use Prim.Native.Nat.{◌*◌, ◌≤◌}
 use native.Mathlib.Omega.{arith}
 use lib.ListN.{length}
-use Rattle.definitions.specs.Records.{recordTable, recordBytes}
-use Rattle.definitions.specs.Ringline.{recordLine}
-use Rattle.lent.proofs.Appending.{appended-as}
+use Rattle.definitions.specs.Records.{record_table, record_bytes}
+use Rattle.definitions.specs.Ringline.{record_line}
+use Rattle.lent.proofs.Appending.{appended_as}
 use Rattle.records.proofs.Records.{whole-fits}
-use Rattle.ringline.proofs.Answering.{Replied, record-answered, line-most}
+use Rattle.ringline.proofs.Answering.{Replied, record_answered, line-most}
 use borrow.Author.Rules.{rules}
 use Rattle.ringline.proofs.render.put_record.Statement.{statement}
 use Rattle.ringline.proofs.render.put_record.Tie as tie
@@ -18,14 +18,14 @@ abbrev start : tie.After-label → tie.Start
 start c = c.before.before.before.before.before.before.before.before
 
 -- the answer makes the record's line
-answer : (c : tie.After-label) → Replied (recordTable (start c).args.rest.now) c.label.result.number c.label.result.count c.label.new.1.1.0
+answer : (c : tie.After-label) → Replied (record_table (start c).args.rest.now) c.label.result.number c.label.result.count c.label.new.1.1.0
 answer c =
     let room = c.before.before.before in
-    record-answered (start c).args.rest.now _ _ _ room.label-room.result room.before.before.atoms-of.ensures
+    record_answered (start c).args.rest.now _ _ _ room.label-room.result room.before.before.atoms-of.ensures
     room.before.record-bytes.ensures room.label-room.ensures c.label.ensures.0
 
 -- which is short enough
-short : (c : tie.After-label) → let a = (start c).args in length (recordLine a.number (recordTable a.rest.now)) ≤ 7 * recordBytes a.rest.now
+short : (c : tie.After-label) → let a = (start c).args in length (record_line a.number (record_table a.rest.now)) ≤ 7 * record_bytes a.rest.now
 short c = line-most (start c).args.number (start c).args.rest.now (start c).requires.0 (omega (arith, (answer c).told, c.label.type-inv))
 
 atoms-of-requires : tie.Need-atoms-of-requires
@@ -71,7 +71,7 @@ returns c =
     let p = c.before.before.before.before.before.before in
     let written = c.before.before.put-answer.ensures in
     let line = (answer p).line (start p).args.number in
-    (appended-as line written, omega (arith, written.end, ap length line, short p))
+    (appended_as line written, omega (arith, written.end, ap length line, short p))
 
 pub put-record-spec : {M : Type 1} → statement M
 put-record-spec =

@@ -6,8 +6,8 @@ use Rattle.sets.specs.Bits.{size}
 use Rattle.sets.specs.Ring.{room}
 use Rattle.sets.proofs.Lists.{sets-whole}
 use Rattle.sets.proofs.Machine.{ring-lt}
-use Rattle.definitions.specs.Table.{maxBonds}
-use Rattle.rings.proofs.Tallying.{single-inside, both-single}
+use Rattle.definitions.specs.Table.{max_bonds}
+use Rattle.rings.proofs.Tallying.{single_inside, both_single}
 use borrow.Author.Rules.{rules}
 use Rattle.rings.proofs.tally.count_alone.Statement.{statement}
 use Rattle.rings.proofs.tally.count_alone.Tie as tie
@@ -18,10 +18,10 @@ next-requires c κs = search rules
 -- the ring has a place
 inside : (c : tie.After-next) → c.next.result < room
 inside c =
-    let start = c.before.before in single-inside start.requires.0 (ring-lt start.args.members (search rules)) c.next.ensures
+    let start = c.before.before in single_inside start.requires.0 (ring-lt start.args.members (search rules)) c.next.ensures
 
 at-requires : tie.Need-at-requires
-at-requires c κs = omega (arith, inside c, sets-whole maxBonds c.before.before.args.rings.now (search rules))
+at-requires c κs = omega (arith, inside c, sets-whole max_bonds c.before.before.args.rings.now (search rules))
 
 size-requires : tie.Need-size-requires
 size-requires c κs = search rules
@@ -58,7 +58,7 @@ returns c =
     let sized = c.before.before in
     let start = sized.before.before.before.before in
     let (single, all, smallest) = start.requires in
-    both-single single (ring-lt start.args.members (search rules)) sized.before.before.next.ensures all smallest
+    both_single single (ring-lt start.args.members (search rules)) sized.before.before.next.ensures all smallest
     (sized.size.ensures.0 ∙ ap size sized.before.at.ensures) (omega (arith, sized.size.ensures.1))
 
 pub count-alone-spec : {M : Type 1} → statement M

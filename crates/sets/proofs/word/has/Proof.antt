@@ -3,7 +3,7 @@ use mathlib.Core.Path.{sym, ◌∙◌}
 use borrow.Author.Rules.{rules}
 use borrow.Author.Tests.{le-ltb}
 use Rattle.sets.proofs.Laws.{has_above}
-use Rattle.sets.proofs.Machine.{test-shr}
+use Rattle.sets.proofs.Machine.{test_shr}
 use Rattle.sets.proofs.word.has.Statement.{statement}
 use Rattle.sets.proofs.word.has.Tie as tie
 
@@ -11,7 +11,7 @@ shr-result : tie.Need-overflow-shr-result
 shr-result c = search rules
 
 returns : tie.Need-returns
-returns c = test-shr c.before.args.w c.before.args.k
+returns c = test_shr c.before.args.w c.before.args.k
 
 returns-2 : tie.Need-returns-2
 returns-2 c = le-ltb c.before.args.k 64 (search rules) ∙ sym (has_above 64 c.before.args.k (search rules) (search rules))

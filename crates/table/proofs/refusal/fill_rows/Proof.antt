@@ -7,18 +7,18 @@ use native.Mathlib.Omega.{arith}
 use borrow.Author.Rules.{rules}
 use lib.ListN.{length}
 use Rattle.definitions.specs.Search.{some?}
-use Rattle.definitions.specs.Table.{tail, head, seenBefore?}
+use Rattle.definitions.specs.Table.{tail, head, seen_before?}
 use Rattle.definitions.proofs.Tests.{some-none, some_more, some-found, some_end, clashes}
-use Rattle.table.specs.Ends.{bondsAlone}
+use Rattle.table.specs.Ends.{bonds_alone}
 use Rattle.table.specs.Rows.{Rowed}
 use Rattle.table.proofs.Fitting.{EndAt, ends-inside}
-use Rattle.table.proofs.Rowing.{put-room, rowed-more, rowed-all}
-use Rattle.table.proofs.Doubling.{rowed-seen}
+use Rattle.table.proofs.Rowing.{put-room, rowed_more, rowed_all}
+use Rattle.table.proofs.Doubling.{rowed_seen}
 use Rattle.table.proofs.refusal.fill_rows.Statement.{statement}
 use Rattle.table.proofs.refusal.fill_rows.Tie as tie
 
 abbrev invariant-loop : tie.invariant-loop
-invariant-loop bonds rows₀ k₀ rows k = (k ≤ length bonds / 2) × Rowed bonds k rows × (some? k (seenBefore? (bondsAlone bonds)) ≡ false)
+invariant-loop bonds rows₀ k₀ rows k = (k ≤ length bonds / 2) × Rowed bonds k rows × (some? k (seen_before? (bonds_alone bonds)) ≡ false)
 
 abbrev decreases-loop : tie.decreases-loop
 decreases-loop bonds rows₀ k₀ rows k = length bonds / 2 - k
@@ -31,7 +31,7 @@ ends-of-requires c κs = search rules
 
 -- the ends of the bond are atoms below the limit
 ends : (c : tie.After-ends-of invariant-loop decreases-loop) →
-    let M = bondsAlone c.before.before.before.before.args.bonds.now in
+    let M = bonds_alone c.before.before.before.before.args.bonds.now in
     EndAt c.ends_of.result.tail (tail M c.before.before.loop.k) × EndAt c.ends_of.result.head (head M c.before.before.loop.k)
 ends c = ends-inside c.before.before.before.before.requires.0 c.before.loop-test.true c.ends_of.ensures
 
@@ -45,11 +45,11 @@ at_rows c = c.before.before.before.before.before
 -- the rows share a bond where the pair of atoms is seen before
 seen : (c : tie.After-meets invariant-loop decreases-loop) →
     let turn = (at-ends c.before).before in
-    c.meets.result ≡ seenBefore? (bondsAlone turn.before.before.before.args.bonds.now) turn.before.loop.k
+    c.meets.result ≡ seen_before? (bonds_alone turn.before.before.before.args.bonds.now) turn.before.loop.k
 seen c =
     let turn = (at-ends c.before).before in
     let (a, b) = ends (at-ends c.before) in
-    rowed-seen turn.before.loop.inv.1 turn.before.before.before.pre.1 turn.loop-test.taken a b
+    rowed_seen turn.before.loop.inv.1 turn.before.before.before.pre.1 turn.loop-test.taken a b
     c.before.before.before.before.at.ensures c.before.at2.ensures c.meets.ensures
 
 at-requires : tie.Need-at-requires invariant-loop decreases-loop
@@ -96,7 +96,7 @@ loop-again c =
     let (within, rowed, none) = both.before.before.loop.inv in
     let (a, b) = ends both in (
       omega arith,
-      rowed-more rowed both.before.before.before.before.pre.0 (omega arith) a b old.before.before.before.at.ensures
+      rowed_more rowed both.before.before.before.before.pre.0 (omega arith) a b old.before.before.before.at.ensures
           old.at2.ensures put.before.before.with.ensures put.put-at.ensures c.before.before.with2.ensures c.put-at2.ensures,
       some_more _ none (seen new.before) new.if1.false,
     )
@@ -104,7 +104,7 @@ loop-again c =
 returns-2 : tie.Need-returns-2 invariant-loop decreases-loop
 returns-2 c =
     let (within, rowed, none) = c.before.loop.invariant in
-    (some_end _ within (omega arith) none, λ e. rowed-all rowed within (omega arith))
+    (some_end _ within (omega arith) none, λ e. rowed_all rowed within (omega arith))
 
 pub fill-rows-spec : {M : Type 1} → statement M
 fill-rows-spec =

@@ -5,15 +5,15 @@ use native.Mathlib.Omega.{arith}
 use borrow.Author.Rules.{rules}
 use lib.ListN.{length}
 use Rattle.definitions.specs.Search.{some?}
-use Rattle.definitions.specs.Table.{table, badEnd?, selfBond?}
+use Rattle.definitions.specs.Table.{table, bad_end?, self_bond?}
 use Rattle.definitions.proofs.Tests.{some-none, some_or, some-last}
-use Rattle.table.specs.Ends.{bondsAlone}
+use Rattle.table.specs.Ends.{bonds_alone}
 use Rattle.table.proofs.refusal.wrong_ends.Statement.{statement}
 use Rattle.table.proofs.refusal.wrong_ends.Tie as tie
 
 abbrev invariant-loop : tie.invariant-loop
 invariant-loop atoms bonds outside₀ same₀ k₀ outside same k =
-    (k ≤ length bonds / 2) × (outside ≡ some? k (badEnd? (table atoms bonds))) × (same ≡ some? k (selfBond? (bondsAlone bonds)))
+    (k ≤ length bonds / 2) × (outside ≡ some? k (bad_end? (table atoms bonds))) × (same ≡ some? k (self_bond? (bonds_alone bonds)))
 
 abbrev decreases-loop : tie.decreases-loop
 decreases-loop atoms bonds outside₀ same₀ k₀ outside same k = length bonds / 2 - k

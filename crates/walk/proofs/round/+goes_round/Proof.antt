@@ -6,7 +6,7 @@ use borrow.Author.Rules.{rules}
 use borrow.Fn.Kinds.{In}
 use borrow.Fn.PlainCycle.{Measures, is, falls, and}
 use Rattle.sets.specs.Bond.{bits}
-use Rattle.walk.proofs.Stepping.{Step, other-inside, standing-next, noted-end, noted-none, noted-last, noted_more}
+use Rattle.walk.proofs.Stepping.{Step, other-inside, standing_next, noted_end, noted_none, noted_last, noted_more}
 use Rattle.walk.proofs.round.goes_round.Reads as goes-round
 use Rattle.walk.proofs.round.goes_round.Kinds as kinds
 use Rattle.walk.proofs.round.+goes_round.Lts-goes_round as lts
@@ -33,7 +33,7 @@ module _ (t : ℕ) where
   claims = (other-atom.Asked, other-atom.Learnt, set_at.Asked, set_at.Learnt, other-bond.Asked, other-bond.Learnt, below, goes-round.Post)
 
   returns : lts.Need-returns claims at goes-round.Post
-  returns c = noted-end c.if1.true
+  returns c = noted_end c.if1.true
 
   cast-visited : lts.Need-overflow-cast-visited claims at goes-round.Post
   cast-visited c = omega (arith, c.before.before.before.before.requires.1.atom)
@@ -72,17 +72,17 @@ module _ (t : ℕ) where
   }
 
   returns-2 : lts.Need-returns-2 claims at goes-round.Post
-  returns-2 c = noted-none (step c.before) c.if2.true
+  returns-2 c = noted_none (step c.before) c.if2.true
 
   returns-3 : lts.Need-returns-3 claims at goes-round.Post
-  returns-3 c = noted-last (step c.before.before.before) c.before.before.if2.false c.if3.true
+  returns-3 c = noted_last (step c.before.before.before) c.before.before.if2.false c.if3.true
 
   add-t21 : lts.Need-overflow-add-t21 claims at goes-round.Post
   add-t21 c = omega (arith, (step c.before.before.before).from.room)
 
   goes-round-requires : lts.Need-goes-round-requires claims at goes-round.Post
   goes-round-requires c κs = let found = c.before.before.before.before.before in
-      (omega (arith, pos_of_ne-zero (step found).some, found.before.before.before.before.before.before.before.before.before.before.requires.0), standing-next (step found) c.before.before.before.before.if2.false)
+      (omega (arith, pos_of_ne-zero (step found).some, found.before.before.before.before.before.before.before.before.before.before.requires.0), standing_next (step found) c.before.before.before.before.if2.false)
 
   returns-4 : lts.Need-returns-4 claims at goes-round.Post
   returns-4 c = noted_more (step c.before.before.before.before.before.before) c.before.before.before.before.before.if2.false c.before.before.before.if3.false c.goes-round.ensures

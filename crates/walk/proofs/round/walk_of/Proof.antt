@@ -1,7 +1,7 @@
 -- The walk starts at the lower atom of the lowest bond, if the set has a bond of the table at all. Assumes nothing.
 use borrow.Author.Rules.{rules}
 use Rattle.sets.specs.Bond.{bits}
-use Rattle.walk.proofs.Starting.{walked_none, Start, standing-first, walked_from}
+use Rattle.walk.proofs.Starting.{walked_none, Start, standing_first, walked_from}
 use Rattle.walk.proofs.round.walk_of.Statement.{statement}
 use Rattle.walk.proofs.round.walk_of.Tie as tie
 
@@ -30,7 +30,7 @@ start c = record {
 }
 
 goes-round-requires : tie.Need-goes-round-requires
-goes-round-requires c κs = standing-first (start c.before.before) c.before.before.before.before.before.before.before.requires.1 c.before.before.size.ensures.1
+goes-round-requires c κs = standing_first (start c.before.before) c.before.before.before.before.before.before.before.requires.1 c.before.before.size.ensures.1
 
 returns-2 : tie.Need-returns-2
 returns-2 c = walked_from (start c.before.before.before) c.goes-round.ensures
