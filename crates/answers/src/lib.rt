@@ -1,4 +1,6 @@
 // What every step above shares: the answer and the numbers of the refusals, the limits of a table, and sets written over a lent list.
+#![tactic(auto)]
+
 mod answer;
 mod limits;
 mod write;

@@ -1,4 +1,6 @@
 // The basis rings of a table and the assemblies that they form; the table check, which counts the basis rings.
+#![tactic(auto)]
+
 mod assembly;
 mod basis;
 mod climb;

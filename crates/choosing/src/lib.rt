@@ -1,5 +1,7 @@
 // The smallest basis by elimination: the rings are gone through in order, and each is taken of which something is left after the sets
 // kept are summed with it. What is left is kept, at its lowest bond.
+#![tactic(auto)]
+
 ghost use Rattle.std.specs.Prelude.{◌≡◌, ◌<◌, length, take};
 ghost use Rattle.sets.specs.Bond.{bits, room};
 ghost use Rattle.sets.specs.Lists.{sets_in};

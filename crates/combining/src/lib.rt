@@ -1,6 +1,8 @@
 // Gibbs' combination of the basis rings of an assembly, as 000 has it. The basis rings are taken in turn, and each is summed with the sums
 // of those before it, the old sets: this is its group. A sum of the group is a ring where no ring found in the groups before lies inside
 // it, since of two even sets that make up a sum one has not the closure bond of its basis ring, and in that one lies such a ring.
+#![tactic(auto)]
+
 ghost use Rattle.std.specs.Prelude.{◌≡◌, ◌+◌, ◌^◌, ◌<◌, ◌≤◌, length};
 ghost use Rattle.sets.specs.Bits as set;
 ghost use Rattle.sets.specs.Bond.{bits};

@@ -128,6 +128,7 @@ classes-bond n (e ∷ es) {a} {b} (first q) =
     label_pair n e es a ∙ merged_either _ _ _ (inl (ap (λ (c : ℕ × ℕ). label n es c.0) q))
     ∙ sym (label_pair n e es b ∙ merged_either _ _ _ (inr (ap (λ (c : ℕ × ℕ). label n es c.1) q)))
 classes-bond n (e ∷ es) {a} {b} (later i) = label_pair n e es a ∙ ap (merged _ _) (classes-bond n es i) ∙ sym (label_pair n e es b)
+classes-bond n [] {a = a} {b = b} x' = elim x' [ ]
 
 -- so have all that are joined
 pub joined_label : (n : ℕ) {es : List (ℕ × ℕ)} {a b : ℕ} → Joined es a b → label n es a ≡ label n es b

@@ -105,6 +105,7 @@ module _ {A : Type 0} where
       → (y : A) → In y a → before y x ≡ true
   sorted_earlier (z ∷ a) x c (sorted_more h s) y (here e) = rw e (h x (Memᴰ.append_right a (here refl)))
   sorted_earlier (z ∷ a) x c (sorted_more h s) y (there i) = sorted_earlier a x c s y i
+  sorted_earlier {before = before} [] x c _ y x5 = elim x5 [ ]
 
 -- a member's place: what stands before it and after it
 pub in_split : {A : Type 0} {x : A} {l : List A} → In x l → (a : List A) × (c : List A) × (l ≡ a ++ (x ∷ c))
@@ -473,6 +474,7 @@ module _ {A : Type 0} (p : A → Bool) where
   keep-has : (x : A) (l : List A) → In x l → p x ≡ true → In x (keep p l)
   keep-has x (y ∷ l) (here e) h = rw (keep-take y l (ap p (sym e) ∙ h)) (here e)
   keep-has x (y ∷ l) (there i) h = by (p y) (λ t. rw (keep-take y l t) (there (keep-has x l i h))) (λ t. rw (keep_skip y l t) (keep-has x l i h))
+  keep-has x [] x3 h = elim x3 [ ]
 
   -- what is kept are the members that pass
   pub keep_in : (x : A) (l : List A) → In x (keep p l) ↔ (In x l × (p x ≡ true))
@@ -529,6 +531,7 @@ union_has : (s : ℕ) (l : List ℕ) (k : ℕ) → In s l → has s k ≡ true �
 unfolding union_of
 union_has s (t ∷ l) k (here e) h = has-or t (union_of l) k ∙ ap (λ (b : Bool). b || has (union_of l) k) (ap (λ (x : ℕ). has x k) (sym e) ∙ h)
 union_has s (t ∷ l) k (there i) h = has-or t (union_of l) k ∙ ap (λ (b : Bool). has t k || b) (union_has s l k i h) ∙ or-true (has t k)
+union_has s [] k x'' h = elim x'' [ ]
 
 -- its members are those of the sets
 pub has-union_of : (l : List ℕ) (k : ℕ) → (has (union_of l) k ≡ true) ↔ ((s : ℕ) × In s l × (has s k ≡ true))

@@ -141,6 +141,7 @@ agreed : (cs : List Claim) → agree cs ≡ true → (c : Claim) → In c cs →
 unfolding agree
 agreed (d ∷ cs) e c (here i) = ap found i ∙ same_lists (found d) (said d) ((and-eq-true_iff (same? (found d) (said d)) (agree cs)).0 e).0 ∙ sym (ap said i)
 agreed (d ∷ cs) e c (there i) = agreed cs ((and-eq-true_iff (same? (found d) (said d)) (agree cs)).0 e).1 c i
+agreed [] e c x'' = elim x'' [ ]
 
 -- each starred example holds of the definitions
 pub starred_examples : (c : Claim) → In c claims → found c ≡ said c

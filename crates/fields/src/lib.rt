@@ -1,4 +1,6 @@
 // Numbers and tagged fields as bytes, high byte first, written into a lent list: each function writes at a place and gives the next.
+#![tactic(auto)]
+
 mod field;
 mod number;
 

@@ -2,6 +2,8 @@
 // two bytes a bond, and has the contract of the entry that it calls: number, count and every element of what is lent, for every input, and
 // what is only read is as it was. include/foliocrane.h declares them for C. What is demanded of a call stands in specs/, and proofs/ has it of
 // these contracts.
+#![tactic(auto)]
+
 ghost use Rattle.std.specs.Prelude.{◌≡◌, [], length};
 ghost use Rattle.lookup.specs.Lookup as lookups;
 ghost use Rattle.definitions.specs.Table.{table as table_of, refusal};

@@ -1,4 +1,6 @@
 // The label of a table: its rings counted, and the counts as bytes.
+#![tactic(auto)]
+
 ghost use Rattle.std.specs.Prelude.{◌≡◌};
 ghost use Rattle.definitions.specs.Table.{table};
 ghost use Rattle.definitions.specs.Label as spec;

@@ -1,4 +1,6 @@
 // A label's values and its bytes. No table is known here.
+#![tactic(auto)]
+
 mod histogram;
 mod text;
 

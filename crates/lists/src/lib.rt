@@ -1,5 +1,7 @@
 // All rings of a table and its smallest basis, listed. They are worked out in the shortest lists that have room, each length in a function
 // of its own, so that a table with few sums takes little stack.
+#![tactic(auto)]
+
 mod listing;
 mod room;
 

@@ -1,5 +1,7 @@
 // The size lookup: of two lent lists of sets, the sets in a row that have a given number of bonds. The answer is a part of one of the two
 // lists. It takes lists of any length, and every size.
+#![tactic(auto)]
+
 ghost use Rattle.std.specs.Prelude.{◌≡◌, ◌+◌, ◌<◌, length, get_or, drop};
 ghost use Rattle.sets.specs.Bits as bits;
 ghost use Rattle.sets.specs.Lists.{sets_in};

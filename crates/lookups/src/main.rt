@@ -2,6 +2,8 @@
 // each its number of words and then these, all in eight bytes, high byte first; bytes that make no whole word are left out. For each
 // record its number from 1 is printed and, for the sizes 0 and 3 to 8, the words found; a broken one prints its number and `frame`, and
 // ends the output.
+#![tactic(auto)]
+
 ghost use Rattle.std.specs.Prelude.{◌≡◌, ◌≤◌, length};
 
 // No more words of the input are read: enough for two lists of all rings.

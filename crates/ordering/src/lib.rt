@@ -1,4 +1,6 @@
 // The order of rings, and how many sets have each size.
+#![tactic(auto)]
+
 mod order;
 mod sizes;
 

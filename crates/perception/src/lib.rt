@@ -1,5 +1,7 @@
 // What all rings, the smallest basis and the label have in common: the refusal, the basis rings and the assemblies of a table, and how
 // long the lists are in which its rings are worked out.
+#![tactic(auto)]
+
 ghost use Rattle.definitions.specs.Table.{table};
 ghost use Rattle.perception.specs.Perceiving.{Refused, Perceives};
 

@@ -1,4 +1,6 @@
 // What the programs over the library share: the records of a stream, and text written into a lent list.
+#![tactic(auto)]
+
 mod record;
 mod text;
 

@@ -1,4 +1,6 @@
 // The reduced basis: the basis rings of each assembly, swept until a sweep changes nothing.
+#![tactic(auto)]
+
 mod assembly;
 mod sweep;
 

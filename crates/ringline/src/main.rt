@@ -1,4 +1,6 @@
 // The program: the label of each table on standard input, a line a record.
+#![tactic(auto)]
+
 mod input;
 mod line;
 mod render;

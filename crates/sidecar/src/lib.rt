@@ -1,4 +1,6 @@
 // The sidecar of a table: one field with the reduced basis.
+#![tactic(auto)]
+
 ghost use Rattle.std.specs.Prelude.{◌≡◌, ◌+◌, ◌≤◌, length, take};
 ghost use Rattle.sets.specs.Bond.{bits};
 ghost use Rattle.sets.specs.Lists.{sets_in};

@@ -86,6 +86,7 @@ pub sub_in : {A : Type 0} {us vs : List A} → Sublistᴰ us vs → (x : A) → 
 sub_in (Sublistᴰ.cons s) x i = there (sub_in s x i)
 sub_in (Sublistᴰ.cons-cons e s) x (here q) = here (q ∙ e)
 sub_in (Sublistᴰ.cons-cons e s) x (there i) = there (sub_in s x i)
+sub_in {A = A} Sublistᴰ.slnil x i = elim i [ ]
 
 -- a list less one element is a part of it
 less_one : {A : Type 0} (ls : List A) (x : A) (rs : List A) → Sublistᴰ (ls ++ rs) (ls ++ x ∷ rs)

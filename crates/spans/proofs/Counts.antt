@@ -81,6 +81,7 @@ total-cons n ns = refl
 in_total : (ns : List ℕ) (n : ℕ) → In n ns → n ≤ total ns
 in_total (m ∷ ns) n (here q) = omega (arith, total-cons m ns)
 in_total (m ∷ ns) n (there i) = omega (arith, total-cons m ns, in_total ns n i)
+in_total [] n x' = elim x' [ ]
 
 -- ---- a total in another way
 

@@ -18,7 +18,7 @@ use Rattle.definitions.proofs.Lists.{Sorted, sorted_more, keep_in, keep-take}
 use Rattle.spans.proofs.Spans.{Span, Indep, span_in, span_eq, span_sub, span_trans}
 use Rattle.spans.proofs.Choice.{from_middle, indep_sub}
 use Rattle.spans.proofs.Exchange.{exchange, same_length}
-use Rattle.spans.proofs.Taking.{Run, leave, keep, run, taking_in, taking_indep, taking_holds}
+use Rattle.spans.proofs.Taking.{Run, done, leave, keep, run, taking_in, taking_indep, taking_holds}
 use Rattle.spans.proofs.Counts.{light, upto, length_light, keep-sub, lighter, same_upto, same-occurs}
 
 -- the list rises: each set weighs at most as much as any after it
@@ -48,6 +48,7 @@ module _ (w : ℕ → ℕ) where
   run_light (keep {acc} {xs} {ys} {x = y} n r) (sorted_more h d) t x (there i) l =
       rw (keep-take (λ x. leb (w x) t) y ys (le-leb (w y) t (le_trans (leb-true (w y) (w x) (h x i)) l)))
       (span_sub (from_middle (light w t ys) y acc) (run_light r d t x i l))
+  run_light (done {acc = acc}) _ t x x19 l = elim x19 [ ]
 
   -- b is a sum of sets of xs that are no heavier than b
   abbrev pub Reached : List ℕ → ℕ → Type 0

@@ -62,7 +62,7 @@ span_sum {x = x} {y = y} (add {v} a) (skip b) = add (span_eq (xor_assoc v x y) (
 span_sum {x = x} {y = y} (add {v} a) (add b) = skip (span_eq (xor_cross v x y) (span_sum a b))
 
 -- the sets of a list are in its span
-pub span_in : {vs : List ℕ} {x : ℕ} → In x vs → Span vs x
+pub span_in : {x : ℕ} {vs : List ℕ} → In x vs → Span vs x
 span_in (here {x = v} {xs = vs} e) = add (span_eq (sym (ap (bit_xor v) e ∙ xor_self v)) (span_zero vs))
 span_in (there i) = skip (span_in i)
 

@@ -73,6 +73,7 @@ run_span {ys = ys} (leave s r) x (here e) = span_eq (sym e) (span_sub (λ y i. M
 run_span (leave s r) x (there i) = run_span r x i
 run_span (keep n r) x (here e) = span_in (here e)
 run_span (keep {acc} {xs} {ys} {x = y} n r) x (there i) = span_sub (from_middle ys y acc) (run_span r x i)
+run_span (done {acc = acc}) x x10 = elim x10 [ ]
 
 -- of a longer list at least as much is taken, and it begins alike
 run_prefix : {acc ys : List ℕ} (xs : List ℕ) → Run acc xs ys → (zs : List ℕ) → (ws : List ℕ) × Run acc (xs ++ zs) (ys ++ ws)

@@ -1,4 +1,6 @@
 // A ring of a table in walking order: its atoms and its bonds.
+#![tactic(auto)]
+
 mod round;
 
 ghost use Rattle.std.specs.Prelude.{◌≡◌, cond, ◌/◌, ◌≤◌, length, take};

@@ -1,1 +1,2 @@
 // No code: the mathematics of the walk round a ring stands in proofs/.
+#![tactic(auto)]

@@ -1,0 +1,15 @@
+-- `sets::list::write` meets its contract. Assumes nothing.
+use native.Mathlib.Omega.{arith}
+use Rattle.sets.proofs.Lists.{sets-length}
+use Rattle.sets.proofs.OneWord.{one_write}
+use borrow.Author.Rules.{rules}
+use Rattle.sets.proofs.list.write.Goals as goal
+
+pub offset_bounds-list-i : goal.offset_bounds-list-i
+offset_bounds-list-i c = omega (arith, sets-length c.args.list.now)
+
+pub bounds-list-i : goal.bounds-list-i
+bounds-list-i c = omega (arith, sets-length c.args.list.now)
+
+pub returns : goal.returns
+returns c = one_write c.args.list.now c.args.i c.args.w c.requires (search rules)
