@@ -3,7 +3,7 @@
 // 0 and a count, or the number of a refusal and 0. The count is of the items written, in each list where there are two, or of the sets where
 // sets are written, or for the table check of the basis rings.
 #[repr(C)]
-#[derive(Drop)]
+#[derive(Clone, Copy)]
 pub struct Answer {
     pub number: u8,
     pub count: usize,

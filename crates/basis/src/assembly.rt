@@ -16,14 +16,14 @@ use sets::list::{sets_in, sets_up_to};
 use sets::{BondSet, RingSet};
 
 // The assemblies in order, each as the set of its basis rings: the first count sets.
-#[derive(Drop)]
+#[derive(Clone, Copy)]
 pub struct Assemblies {
     pub members: [RingSet; MAX_BONDS],
     pub count: usize,
 }
 
 // An assembly that grows: its basis rings, their bonds, and the rings that are left.
-#[derive(Drop)]
+#[derive(Clone, Copy)]
 pub(crate) struct Cluster {
     pub members: RingSet,
     pub bonds: BondSet,

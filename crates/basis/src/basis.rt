@@ -7,7 +7,7 @@ use answers::{ATOM_WORDS, BASIS_WORDS};
 use table::{ends_of, refusal_of};
 
 // The number of the refusal, or 0 with the basis rings of a table in order of closure bonds: the first count sets of a list.
-#[derive(Drop)]
+#[derive(Clone, Copy)]
 pub struct Basis {
     pub number: u8,
     pub rings: [u64; BASIS_WORDS],

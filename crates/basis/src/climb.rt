@@ -10,7 +10,7 @@ use answers::{ATOM_WORDS, MAX_ATOMS};
 use sets::BondSet;
 
 // Where an atom leads at last, and the sum of the ways.
-#[derive(Drop)]
+#[derive(Clone, Copy)]
 pub(crate) struct Climb {
     pub atom: usize,
     pub bonds: BondSet,

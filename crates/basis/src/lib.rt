@@ -19,7 +19,7 @@ pub use basis::{Basis, basis_of};
 // The table check: 0 and the number of basis rings, or the number of the refusal and 0.
 pub fn check(atoms: u64, bonds: &[u8]) -> Answer
     ensures answer { outcome_of result.number result.count [] ≡ counted (refusal (table atoms bonds.now)) (length (basis_rings (table atoms bonds.now))) }
-    ensures read { bonds.now ≡ bonds.now }
+    ensures read { bonds.exit.now ≡ bonds.entry.now }
 {
     let basis = basis_of(atoms, bonds);
     Answer {
@@ -31,7 +31,7 @@ pub fn check(atoms: u64, bonds: &[u8]) -> Answer
 // The basis rings: sets as words, in order of closure bonds.
 pub fn basis_rings(atoms: u64, bonds: &[u8], out: &mut [u64]) -> Answer
     ensures answer { outcome_of result.number result.count out.new ≡ written_sets (refusal (table atoms bonds.now)) (basis_rings (table atoms bonds.now)) out.old }
-    ensures read { bonds.now ≡ bonds.now }
+    ensures read { bonds.exit.now ≡ bonds.entry.now }
 {
     let basis = basis_of(atoms, bonds);
     if basis.number > 0 {
@@ -46,7 +46,7 @@ pub fn basis_rings(atoms: u64, bonds: &[u8], out: &mut [u64]) -> Answer
 // The assemblies: for each basis ring the number of its assembly, in one byte.
 pub fn assemblies(atoms: u64, bonds: &[u8], out: &mut [u8]) -> Answer
     ensures answer { outcome_of result.number result.count out.new ≡ written (refusal (table atoms bonds.now)) (spec.assemblies (table atoms bonds.now)) out.old }
-    ensures read { bonds.now ≡ bonds.now }
+    ensures read { bonds.exit.now ≡ bonds.entry.now }
 {
     let basis = basis_of(atoms, bonds);
     if basis.number > 0 {

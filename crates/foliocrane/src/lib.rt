@@ -23,7 +23,7 @@ use sets::BondSet;
 #[unsafe(no_mangle)]
 pub extern "C" fn foliocrane_check(atoms: u64, bonds: &[u8]) -> Answer
     ensures answer { outcome_of result.number result.count [] ≡ counted (refusal (table_of atoms bonds.now)) (length (basis_rings (table_of atoms bonds.now))) }
-    ensures read { bonds.now ≡ bonds.now }
+    ensures read { bonds.exit.now ≡ bonds.entry.now }
 {
     basis::check(atoms, bonds)
 }
@@ -32,7 +32,7 @@ pub extern "C" fn foliocrane_check(atoms: u64, bonds: &[u8]) -> Answer
 #[unsafe(no_mangle)]
 pub extern "C" fn foliocrane_basis_rings(atoms: u64, bonds: &[u8], out: &mut [u64]) -> Answer
     ensures answer { outcome_of result.number result.count out.new ≡ written_sets (refusal (table_of atoms bonds.now)) (basis_rings (table_of atoms bonds.now)) out.old }
-    ensures read { bonds.now ≡ bonds.now }
+    ensures read { bonds.exit.now ≡ bonds.entry.now }
 {
     basis::basis_rings(atoms, bonds, out)
 }
@@ -41,7 +41,7 @@ pub extern "C" fn foliocrane_basis_rings(atoms: u64, bonds: &[u8], out: &mut [u6
 #[unsafe(no_mangle)]
 pub extern "C" fn foliocrane_assemblies(atoms: u64, bonds: &[u8], out: &mut [u8]) -> Answer
     ensures answer { outcome_of result.number result.count out.new ≡ written (refusal (table_of atoms bonds.now)) (assemblies (table_of atoms bonds.now)) out.old }
-    ensures read { bonds.now ≡ bonds.now }
+    ensures read { bonds.exit.now ≡ bonds.entry.now }
 {
     basis::assemblies(atoms, bonds, out)
 }
@@ -50,7 +50,7 @@ pub extern "C" fn foliocrane_assemblies(atoms: u64, bonds: &[u8], out: &mut [u8]
 #[unsafe(no_mangle)]
 pub extern "C" fn foliocrane_all_rings(atoms: u64, bonds: &[u8], out: &mut [u64]) -> Answer
     ensures answer { outcome_of result.number result.count out.new ≡ written_sets (refusal_of_rings (table_of atoms bonds.now)) (all_rings (table_of atoms bonds.now)) out.old }
-    ensures read { bonds.now ≡ bonds.now }
+    ensures read { bonds.exit.now ≡ bonds.entry.now }
 {
     lists::all_rings(atoms, bonds, out)
 }
@@ -59,7 +59,7 @@ pub extern "C" fn foliocrane_all_rings(atoms: u64, bonds: &[u8], out: &mut [u64]
 #[unsafe(no_mangle)]
 pub extern "C" fn foliocrane_smallest_basis(atoms: u64, bonds: &[u8], out: &mut [u64]) -> Answer
     ensures answer { outcome_of result.number result.count out.new ≡ written_sets (refusal_of_rings (table_of atoms bonds.now)) (smallest_basis (table_of atoms bonds.now)) out.old }
-    ensures read { bonds.now ≡ bonds.now }
+    ensures read { bonds.exit.now ≡ bonds.entry.now }
 {
     lists::smallest_basis(atoms, bonds, out)
 }
@@ -68,7 +68,7 @@ pub extern "C" fn foliocrane_smallest_basis(atoms: u64, bonds: &[u8], out: &mut 
 #[unsafe(no_mangle)]
 pub extern "C" fn foliocrane_reduced_basis(atoms: u64, bonds: &[u8], out: &mut [u64]) -> Answer
     ensures answer { outcome_of result.number result.count out.new ≡ written_sets (refusal (table_of atoms bonds.now)) (reduced_basis (table_of atoms bonds.now)) out.old }
-    ensures read { bonds.now ≡ bonds.now }
+    ensures read { bonds.exit.now ≡ bonds.entry.now }
 {
     reduced::reduced_basis(atoms, bonds, out)
 }
@@ -84,7 +84,7 @@ pub extern "C" fn foliocrane_ring_walk(
     ring_bonds: &mut [u8],
 ) -> Answer
     ensures answer { outcome_of result.number result.count (ring_atoms.new, ring_bonds.new) ≡ written_both (refusal_of_walk (table_of atoms bonds.now) set) (walk_atoms (table_of atoms bonds.now) set, walk_bonds (table_of atoms bonds.now) set) (ring_atoms.old, ring_bonds.old) }
-    ensures read { bonds.now ≡ bonds.now }
+    ensures read { bonds.exit.now ≡ bonds.entry.now }
 {
     let ring = BondSet::of_words([set]);
     walk::ring_walk(atoms, bonds, ring, ring_atoms, ring_bonds)
@@ -94,7 +94,7 @@ pub extern "C" fn foliocrane_ring_walk(
 #[unsafe(no_mangle)]
 pub extern "C" fn foliocrane_label(atoms: u64, bonds: &[u8], out: &mut [u8]) -> Answer
     ensures answer { outcome_of result.number result.count out.new ≡ written (refusal_of_rings (table_of atoms bonds.now)) (label_of (table_of atoms bonds.now)) out.old }
-    ensures read { bonds.now ≡ bonds.now }
+    ensures read { bonds.exit.now ≡ bonds.entry.now }
 {
     label::label(atoms, bonds, out)
 }
@@ -103,7 +103,7 @@ pub extern "C" fn foliocrane_label(atoms: u64, bonds: &[u8], out: &mut [u8]) -> 
 #[unsafe(no_mangle)]
 pub extern "C" fn foliocrane_sidecar(atoms: u64, bonds: &[u8], out: &mut [u8]) -> Answer
     ensures answer { outcome_of result.number result.count out.new ≡ written (refusal (table_of atoms bonds.now)) (sidecar_of (table_of atoms bonds.now)) out.old }
-    ensures read { bonds.now ≡ bonds.now }
+    ensures read { bonds.exit.now ≡ bonds.entry.now }
 {
     sidecar::sidecar(atoms, bonds, out)
 }
@@ -111,7 +111,7 @@ pub extern "C" fn foliocrane_sidecar(atoms: u64, bonds: &[u8], out: &mut [u8]) -
 // The part of the first list, or else of the second, whose sets have a size. It hands back a part of a lent list, so it is for Rattle alone.
 pub fn of_size<'a>(first: &'a [u64], second: &'a [u64], size: u64) -> &'a [u64]
     ensures part { lookups.lent result ≡ lookups.of_size size (lookups.lent first.entry) (lookups.lent second.entry) }
-    ensures read { (first.now ≡ first.now) × (second.now ≡ second.now) }
+    ensures read { (first.exit.now ≡ first.entry.now) × (second.exit.now ≡ second.entry.now) }
 {
     lookup::of_size(first, second, size)
 }

@@ -13,7 +13,7 @@ use rings::count_rings;
 // The label: four fields, from the number of basis rings, which is the Frerejacque number, the rings, the smallest basis and the assemblies.
 pub fn label(atoms: u64, bonds: &[u8], out: &mut [u8]) -> Answer
     ensures answer { outcome_of result.number result.count out.new ≡ written (refusal_of_rings (table atoms bonds.now)) (spec.label_of (table atoms bonds.now)) out.old }
-    ensures read { bonds.now ≡ bonds.now }
+    ensures read { bonds.exit.now ≡ bonds.entry.now }
 {
     let mut all = [0usize; SIZES];
     let mut smallest = [0usize; SIZES];

@@ -30,7 +30,7 @@ const SMALL_COUNT: usize = 1;
 const PAIR: usize = 2;
 
 // What a label says besides its counts by size: the Frerejacque number, a size above all that are counted, and how many pairs it has.
-#[derive(Drop)]
+#[derive(Clone, Copy)]
 pub struct Numbers {
     pub frerejacque: u64,
     pub top: usize,

@@ -191,7 +191,7 @@ fn smallest_from(
 // All rings: sets as words, ordered by size and then as numbers.
 pub fn all_rings(atoms: u64, bonds: &[u8], out: &mut [u64]) -> Answer
     ensures answer { outcome_of result.number result.count out.new ≡ written_sets (refusal_of_rings (table atoms bonds.now)) (all_rings (table atoms bonds.now)) out.old }
-    ensures read { bonds.now ≡ bonds.now }
+    ensures read { bonds.exit.now ≡ bonds.entry.now }
 {
     let seen = perceive(atoms, bonds);
     if seen.number > 0 {
@@ -207,7 +207,7 @@ pub fn all_rings(atoms: u64, bonds: &[u8], out: &mut [u64]) -> Answer
 // The smallest basis: sets as words, as they are taken from all rings.
 pub fn smallest_basis(atoms: u64, bonds: &[u8], out: &mut [u64]) -> Answer
     ensures answer { outcome_of result.number result.count out.new ≡ written_sets (refusal_of_rings (table atoms bonds.now)) (smallest_basis (table atoms bonds.now)) out.old }
-    ensures read { bonds.now ≡ bonds.now }
+    ensures read { bonds.exit.now ≡ bonds.entry.now }
 {
     let seen = perceive(atoms, bonds);
     if seen.number > 0 {

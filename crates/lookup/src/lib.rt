@@ -55,7 +55,7 @@ fn found<'a>(list: &'a [u64], size: u64) -> &'a [u64]
 // the place where the first list begins.
 pub fn of_size<'a>(first: &'a [u64], second: &'a [u64], size: u64) -> &'a [u64]
     ensures part { spec.lent result ≡ spec.of_size size (spec.lent first.entry) (spec.lent second.entry) }
-    ensures read { (first.now ≡ first.now) × (second.now ≡ second.now) }
+    ensures read { (first.exit.now ≡ first.entry.now) × (second.exit.now ≡ second.entry.now) }
 {
     let in_first = found(first, size);
     if 0 < in_first.len() {

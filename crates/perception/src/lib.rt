@@ -18,7 +18,7 @@ pub const MANY: usize = 1024;
 
 // The number of the refusal, or 0 with the basis rings, the assemblies, and how many sums these have that are not empty: there are no
 // more rings than that.
-#[derive(Drop)]
+#[derive(Clone, Copy)]
 pub struct Perceived {
     pub number: u8,
     pub basis: Basis,

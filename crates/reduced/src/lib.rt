@@ -14,7 +14,7 @@ use answers::{Answer, BASIS_WORDS, write_sets};
 use assembly::reduce_all;
 
 // The number of the refusal, or 0 and the reduced sets: the first count sets of a list.
-#[derive(Drop)]
+#[derive(Clone, Copy)]
 pub struct Reduced {
     pub number: u8,
     pub sets: [u64; BASIS_WORDS],
@@ -46,7 +46,7 @@ pub fn reduce(atoms: u64, bonds: &[u8]) -> Reduced
 // The reduced basis: sets as words, assemblies in order; the refusals of a table, then 8.
 pub fn reduced_basis(atoms: u64, bonds: &[u8], out: &mut [u64]) -> Answer
     ensures answer { outcome_of result.number result.count out.new ≡ written_sets (refusal (table atoms bonds.now)) (reduced_basis (table atoms bonds.now)) out.old }
-    ensures read { bonds.now ≡ bonds.now }
+    ensures read { bonds.exit.now ≡ bonds.entry.now }
 {
     let found = reduce(atoms, bonds);
     if found.number > 0 {

@@ -5,7 +5,7 @@ ghost use Rattle.io.specs.Counts.{IsPrefixLen};
 const STANDARD_INPUT: i32 = 0;
 
 // How many bytes were read, and whether a read failed.
-#[derive(Drop)]
+#[derive(Clone, Copy)]
 pub(crate) struct Input {
     pub(crate) count: usize,
     pub(crate) failed: bool,

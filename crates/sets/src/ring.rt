@@ -6,7 +6,7 @@ ghost use Rattle.sets.specs.Ring.{bits, room};
 
 use super::word;
 
-#[derive(Drop)]
+#[derive(Clone, Copy)]
 pub struct RingSet(pub u64);
 
 impl RingSet {

@@ -62,7 +62,7 @@ fn write_sidecar(sets: &[u64], n: usize, out: &mut [u8]) -> Answer
 // The sidecar: one field with the reduced basis.
 pub fn sidecar(atoms: u64, bonds: &[u8], out: &mut [u8]) -> Answer
     ensures answer { outcome_of result.number result.count out.new ≡ written (refusal (table atoms bonds.now)) (sidecar_of (table atoms bonds.now)) out.old }
-    ensures read { bonds.now ≡ bonds.now }
+    ensures read { bonds.exit.now ≡ bonds.entry.now }
 {
     let found = reduced::reduce(atoms, bonds);
     if found.number > 0 {

@@ -2,7 +2,7 @@
 ghost use Rattle.table.specs.Ends.{EndsOf};
 
 // The atom that is written first, and the other.
-#[derive(Drop)]
+#[derive(Clone, Copy)]
 pub struct Ends {
     pub tail: usize,
     pub head: usize,

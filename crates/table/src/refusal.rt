@@ -27,7 +27,7 @@ fn self_bond(bonds: &[u8], k: usize) -> bool
 }
 
 // What may be wrong with the ends of bonds: some bond has one that is the atom count or higher; the two of some bond are one atom.
-#[derive(Drop)]
+#[derive(Clone, Copy)]
 struct WrongEnds {
     outside: bool,
     same: bool,

@@ -6,7 +6,7 @@ use super::refusal::try_table;
 use answers::ATOM_WORDS;
 
 // The number of the refusal, or 0 with the rows, as a list of sets.
-#[derive(Drop)]
+#[derive(Clone, Copy)]
 pub struct Rows {
     pub number: u8,
     pub rows: [u64; ATOM_WORDS],

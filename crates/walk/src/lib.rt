@@ -73,7 +73,7 @@ pub fn ring_walk(
     ring_bonds: &mut [u8],
 ) -> Answer
     ensures answer { outcome_of result.number result.count (ring_atoms.new, ring_bonds.new) ≡ written_both (refusal_of_walk (spec.table atoms bonds.now) (bits set)) (walk_atoms (spec.table atoms bonds.now) (bits set), walk_bonds (spec.table atoms bonds.now) (bits set)) (ring_atoms.old, ring_bonds.old) }
-    ensures read { bonds.now ≡ bonds.now }
+    ensures read { bonds.exit.now ≡ bonds.entry.now }
 {
     let seen = table::rows_of(atoms, bonds);
     if seen.number > 0 {

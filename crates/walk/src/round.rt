@@ -13,7 +13,7 @@ use sets::BondSet;
 use table::ends_of;
 
 // Where a walk stands: it has started at an atom and gone over some bonds, some are left to go, and it leaves an atom by a bond.
-#[derive(Drop)]
+#[derive(Clone, Copy)]
 pub(crate) struct Place {
     pub start: usize,
     pub gone: usize,

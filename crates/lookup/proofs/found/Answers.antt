@@ -1,0 +1,20 @@
+-- `lookup::found` meets its contract: the part from where the search ends to where the run ends. Assumes nothing.
+use native.Mathlib.Omega.{arith}
+use borrow.Author.Rules.{rules}
+use Rattle.lookup.proofs.Laws.{found-room, part-found}
+use Rattle.lookup.proofs.found.Goals as goal
+
+pub overflow_mul-result : goal.overflow_mul-result
+overflow_mul-result c = omega (arith, found-room _ _ c.run_start-start.ensures c.run_end-end.ensures)
+
+pub overflow_mul-result-2 : goal.overflow_mul-result-2
+overflow_mul-result-2 c = omega (arith, found-room _ _ c.run_start-start.ensures c.run_end-end.ensures)
+
+pub offset_bounds-list-start : goal.offset_bounds-list-start
+offset_bounds-list-start c = omega (arith, found-room _ _ c.run_start-start.ensures c.run_end-end.ensures)
+
+pub slice_bounds-result-end : goal.slice_bounds-result-end
+slice_bounds-result-end c = omega (arith, found-room _ _ c.run_start-start.ensures c.run_end-end.ensures)
+
+pub returns : goal.returns
+returns c = part-found _ _ c.run_start-start.ensures c.run_end-end.ensures
