@@ -1,16 +1,16 @@
--- Numbers in decimal and bytes in hex: the digits that the kit's printing gives are those of the definition; how many there are.
+-- Numbers in decimal and bytes in hex: the digits that a number is printed as are those of the definition; how many there are.
 -- Assumes nothing.
-use mathlib.Core.Path.{◌≡◌, refl, sym, ap, ap₂, ◌∙◌}
-use mathlib.Core.Bool.{true, false, cond, Bool}
+use mathlib.Core.Path.{◌≡◌, refl, sym, ap, ◌∙◌}
 use mathlib.Core.List.{List, [], ◌∷◌, ◌++◌}
-use Prim.Native.Nat.{ℕ, zero, suc, ◌+◌, ◌-◌, ◌*◌, ◌/◌, ◌%◌, ◌^◌, ◌<◌, ◌≤◌}
-use native.Mathlib.Nat.{pow-suc, one-le-pow}
+use Prim.Native.Nat.{ℕ, zero, suc, ◌+◌, ◌*◌, ◌/◌, ◌%◌, ◌^◌, ◌<◌, ◌≤◌}
+use native.Mathlib.Nat.{pow-suc}
 use native.Mathlib.Omega.{arith}
 use lib.Dec.{ltb}
 use lib.ListN.{length, get_or, take}
 use lib.Seq.{take-suc}
 use borrow.Author.Tests.{lt-ltb, le-ltb, ltb-true, ltb-false}
-use Rattle.io.specs.Digits.{hex_digit_ascii as io-glyph, last_digits, IsDigitCount}
+use Rattle.std.specs.Fmt.{decimal as printed}
+use Rattle.std.proofs.lemmas.Fmt.{AppendsLastDigit, decimal_from_appends, length-decimal-le_succ}
 use Rattle.definitions.specs.Search.{gather}
 use Rattle.definitions.specs.Text.{glyph, decimal_in, decimal, hex}
 use Rattle.definitions.proofs.Tests.{by}
@@ -25,14 +25,6 @@ glyph_high d h = rw (le-ltb d 10 h, glyph)
 
 -- ---- decimal
 
--- the kit's digit is the definition's
-glyph-same : (d : ℕ) → io-glyph d ≡ glyph d
-glyph-same d = go (ltb d 10)
-  where
-    go : (b : Bool) → cond b (48 + d) (87 + d) ≡ elim b [ true ↦ 48 + d | false ↦ 87 + d ]
-    go true = refl
-    go false = refl
-
 -- one digit
 in_small : (n x : ℕ) → x < 10 → decimal_in (suc n) x ≡ glyph x ∷ []
 unfolding decimal_in
@@ -43,29 +35,17 @@ in_large : (n x : ℕ) → 10 ≤ x → decimal_in (suc n) x ≡ decimal_in n (x
 unfolding decimal_in
 in_large n x h = rw (le-ltb x 10 h, decimal_in)
 
--- the fewest digits that hold a number are its decimal, in whatever more digits are allowed
-digits_in : (k n x : ℕ) → x < n → IsDigitCount 10 1 x k → last_digits 10 k x ≡ decimal_in n x
-digits_in zero n x h f = absurd (omega (arith, f.0))
-digits_in (suc k) zero x h f = absurd (omega arith)
-digits_in (suc zero) (suc n) x h f =
-    let s : x < 10 = f.1 in
-    let e : x % 10 ≡ x = omega arith in
-    rw (glyph-same (x % 10), e) (sym (in_small n x s))
-digits_in (suc (suc k)) (suc n) x h f =
-    let e : suc (suc k) - 1 ≡ suc k = omega arith in
-    let l : 10 ^ suc k ≤ x = rw e at (f.2 (omega arith)) in
-    let g : x / 10 < 10 ^ suc k = omega (arith, f.1, pow-suc 10 (suc k)) in
-    let m : 10 ^ (suc k - 1) ≤ x / 10 = fewer l in
-    ap₂ (λ (l m : List ℕ). l ++ m) (digits_in (suc k) n (x / 10) (omega arith) (omega arith, g, λ z. m)) (ap (λ (d : ℕ). d ∷ []) (glyph-same (x % 10)))
-    ∙ sym (in_large n x (omega (arith, l, pow-suc 10 k, one-le-pow k 10 (omega arith))))
-  where
-    fewer : 10 ^ suc k ≤ x → 10 ^ (suc k - 1) ≤ x / 10
-    fewer l = let e : suc k - 1 ≡ k = omega arith in rw e (omega (arith, pow-suc 10 k))
+-- each step of the definition appends the last digit
+appends : AppendsLastDigit decimal_in
+appends = record {
+  one = λ k n h. in_small k n h ∙ ap (λ (d : ℕ). d ∷ []) (sym (glyph_low n h));
+  more = λ k n h. in_large k n h ∙ ap (λ (d : ℕ). decimal_in k (n / 10) ++ (d ∷ [])) (sym (glyph_low (n % 10) (omega arith)));
+}
 
--- the digits that the kit prints are the decimal
-pub digits_decimal : (k x : ℕ) → IsDigitCount 10 1 x k → last_digits 10 k x ≡ decimal x
+-- so it is what a number is printed as
+pub printed_decimal : (x : ℕ) → x < 2 ^ 64 → printed x ≡ decimal x
 unfolding decimal
-digits_decimal k x f = digits_in k (x + 1) x (omega arith) f
+printed_decimal x h = sym (decimal_from_appends decimal_in appends (x + 1) x h (length-decimal-le_succ x h))
 
 -- ---- how many digits there are
 

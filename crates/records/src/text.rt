@@ -4,6 +4,8 @@ ghost use Rattle.definitions.specs.Text as spec;
 ghost use Rattle.lent.specs.Appended.{Room, Appended};
 ghost use Rattle.records.specs.Spaced.{spaced};
 
+use itoa::Buffer;
+
 // A digit, decimal or lower-case hexadecimal.
 fn glyph(digit: u8) -> u8
     requires { digit < 16 }
@@ -30,9 +32,8 @@ pub fn put_decimal(number: u64, out: &mut [u8], at: usize) -> usize
     requires { Room (spec.decimal number) out.old at }
     ensures { Appended out.old at (spec.decimal number) out.new result }
 {
-    let mut digits = [0u8; 20];
-    let count = io::decimal(number, &mut digits);
-    put_text(&digits[..count], out, at)
+    let mut digits = Buffer::new();
+    put_text(digits.format(number).as_bytes(), out, at)
 }
 
 // A number and a space after it.
