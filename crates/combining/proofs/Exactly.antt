@@ -76,7 +76,7 @@ sums-has : {o x : ℕ} (olds l : List ℕ) → In o olds → Span l (bit_xor o x
 unfolding sums_from
 sums-has {o} {x} olds [] i (none e) = Memᴰ.cast (sym (xor-zero o x e)) i
 sums-has olds (r ∷ l) i (skip s) = sums-has (olds ++ group r olds) l (Memᴰ.append_left (group r olds) i) s
-sums-has {o} {x} olds (r ∷ l) i (add s) = sums-has (olds ++ group r olds) l (Memᴰ.append_right olds (Memᴰ.map (bit_xor r) i)) (span_eq (sym (xor_assoc r o x)) s)
+sums-has {o} {x} olds (r ∷ l) i (add s) = sums-has {o = bit_xor r o} (olds ++ group r olds) l (Memᴰ.append_right olds (Memᴰ.map (bit_xor r) i)) (span_eq (sym (xor_assoc r o x)) s)
 
 -- the sums of a list are its span
 sums_in_lem : (l : List ℕ) (x : ℕ) → In x (sums_from (0 ∷ []) l) ↔ Span l x

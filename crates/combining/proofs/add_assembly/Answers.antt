@@ -1,8 +1,7 @@
 -- The basis rings of the assembly are taken in turn, each with its group. Assumes nothing.
-use mathlib.Core.Path.{◌≡◌, refl, ◌∙◌}
-use Prim.Native.Nat.{◌-◌, ◌<◌}
+use mathlib.Core.Path.{refl, ◌∙◌}
+use Prim.Native.Nat.{◌<◌}
 use native.Mathlib.Omega.{arith}
-use lib.ListN.{length}
 use lib.Pow.{pow_pos}
 use Rattle.sets.specs.Bits.{size}
 use Rattle.sets.specs.Lists.{sets_in}
@@ -11,7 +10,7 @@ use Rattle.sets.proofs.Lists.{sets-length, sets-whole}
 use Rattle.sets.proofs.Machine.{no_bonds_lem}
 use Rattle.definitions.specs.Table.{max_bonds}
 use Rattle.definitions.proofs.Passing.{passed_rises}
-use Rattle.combining.proofs.Turns.{Turned, turned_none, turned_few, turned_held, turned_room, turned_more, turned_all}
+use Rattle.combining.proofs.Turns.{turned_none, turned_few, turned_held, turned_room, turned_more, turned_all}
 use borrow.Author.Rules.{rules}
 use Rattle.combining.proofs.add_assembly.Goals as goal
 
@@ -19,7 +18,8 @@ pub put_at-requires : goal.put_at-requires
 put_at-requires c = omega (arith, c.requires.0, pow_pos (size (bits c.args.members)))
 
 pub loop-i-init : goal.loop-i-init
-loop-i-init c =    let put = c.put_at.ensures in
+loop-i-init c =
+    let put = c.put_at.ensures in
     (refl, refl, turned_none (sets_in c.args.rings.now) (sets_in c.args.sums.now) c.requires.0 c.requires.1 no_bonds_lem put.sets c.next-i.ensures)
 
 pub at-requires : goal.at-requires
@@ -29,26 +29,30 @@ pub double-requires : goal.double-requires
 double-requires c = turned_few c.loop-i.invariant.2 (omega arith)
 
 pub add_group-count-requires : goal.add_group-count-requires
-add_group-count-requires c =    let t = c.loop-i.invariant.2 in
+add_group-count-requires c =
+    let t = c.loop-i.invariant.2 in
     let h : c.loop-i.i < room = omega arith in
     let ring = c.at.ensures in
-    let made = c.double.ensures.1 in
+    let made = c.double.ensures.sums in
     (turned_held t h ring made, omega (arith, t.appended.end), turned_room t h ring made)
 
 pub overflow_add-half : goal.overflow_add-half
-overflow_add-half c =    let turn = c.loop-i in
+overflow_add-half c =
+    let turn = c.loop-i in
     omega (arith, turned_few turn.invariant.2 (omega arith), sets-length turn.sums)
 
 pub loop-i-smaller : goal.loop-i-smaller
-loop-i-smaller c =    let t = c.loop-i.invariant.2 in
+loop-i-smaller c =
+    let t = c.loop-i.invariant.2 in
     omega (arith, passed_rises t.passed (omega arith) c.next-i-in-loop-i.ensures)
 
 pub loop-i-preserved : goal.loop-i-preserved
-loop-i-preserved c =    let turn = c.loop-i in
+loop-i-preserved c =
+    let turn = c.loop-i in
     let h : turn.i < room = omega arith in
     let double = c.double.ensures in
     let add = c.add_group-count.ensures in
-    (double.0 ∙ turn.invariant.0, add.0 ∙ turn.invariant.1, turned_more turn.invariant.2 h c.at.ensures double.1 add.1 c.next-i-in-loop-i.ensures)
+    (double.long ∙ turn.invariant.0, add.long ∙ turn.invariant.1, turned_more turn.invariant.2 h c.at.ensures double.sums add.added c.next-i-in-loop-i.ensures)
 
 pub shape_of-sums : goal.shape_of-sums
 shape_of-sums c = c.loop-i.invariant.0 ∙ c.put_at.ensures.long
@@ -57,5 +61,6 @@ pub shape_of-found : goal.shape_of-found
 shape_of-found c = c.loop-i.invariant.1
 
 pub returns : goal.returns
-returns c =    let end = c.loop-i.invariant in
-    (end.0 ∙ c.put_at.ensures.long, (end.1, turned_all end.2 (omega arith)))
+returns c =
+    let end = c.loop-i.invariant in
+    record { sums = end.0 ∙ c.put_at.ensures.long; found = end.1; added = turned_all end.2 (omega arith) }

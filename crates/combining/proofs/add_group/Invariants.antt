@@ -1,12 +1,9 @@
 -- The sums of the group are gone through one by one. Assumes nothing.
-use mathlib.Core.Path.{◌≡◌, refl, ◌∙◌}
+use mathlib.Core.Path.{◌≡◌}
 use Prim.Native.Nat.{◌+◌, ◌-◌}
-use native.Mathlib.Omega.{arith}
 use lib.ListN.{length}
 use Rattle.sets.specs.Lists.{sets_in}
-use Rattle.sets.proofs.Lists.{sets-length}
-use Rattle.combining.proofs.Adding.{Adding, adding_none, adding_room, adding_more, adding_all}
-use borrow.Author.Rules.{rules}
+use Rattle.combining.proofs.Adding.{Adding}
 use Rattle.combining.proofs.add_group.Given as goal
 
 abbrev pub invariant-loop-j : goal.invariant-loop-j
@@ -14,4 +11,3 @@ invariant-loop-j l = (length l.found ≡ length l.initial.found) × Adding (sets
 
 abbrev pub decreases-loop-j : goal.decreases-loop-j
 decreases-loop-j l = l.half + l.half - l.j
-

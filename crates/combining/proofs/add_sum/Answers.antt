@@ -7,7 +7,6 @@ use Rattle.sets.specs.Lists.{sets_in}
 use Rattle.sets.proofs.Lists.{sets-length}
 use Rattle.combining.specs.Gibbs.{clear?}
 use Rattle.combining.proofs.Adding.{sum_room, sum_taken, sum_left}
-use borrow.Author.Rules.{rules}
 use Rattle.combining.proofs.add_sum.Goals as goal
 use Rattle.combining.proofs.add_sum.Goals.{Then-is_ring}
 
@@ -16,18 +15,19 @@ room : (c : Then-is_ring) → c.args.n < length (sets_in c.args.found.now)
 room c =
     sum_room (clear? _) (sets_in c.args.sums.now) c.requires.0 c.at-sum.ensures c.is_ring.ensures (sets_in c.args.found.now) c.if-is_ring.true c.requires.3
 
-
 pub put_at-requires : goal.put_at-requires
-put_at-requires c = room (goal.at.put_at-requires (goal.at.put_at-requires c).After-put_at-arg-1).Then-is_ring
+put_at-requires c = room (goal.at.put_at-requires c).Then-is_ring
 
 pub overflow_add-result : goal.overflow_add-result
-overflow_add-result c =    omega (arith, room (goal.at.overflow_add-result (goal.at.overflow_add-result c).After-slice_known-then-is_ring-1).Then-is_ring, sets-length c.args.found.now)
+overflow_add-result c = omega (arith, room (goal.at.overflow_add-result c).Then-is_ring, sets-length c.args.found.now)
 
 pub returns-then-is_ring : goal.returns-then-is_ring
-returns-then-is_ring c =    let put = c.put_at.ensures in (
-      put.long,
-      sum_taken (clear? _) (sets_in c.args.sums.now) c.requires.0 c.at-sum.ensures c.is_ring.ensures (sets_in c.args.found.now) c.if-is_ring.true c.requires.3 put.sets,
-    )
+returns-then-is_ring c =
+    let put = c.put_at.ensures in
+    record {
+      long = put.long;
+      added = sum_taken (clear? _) (sets_in c.args.sums.now) c.requires.0 c.at-sum.ensures c.is_ring.ensures (sets_in c.args.found.now) c.if-is_ring.true c.requires.3 put.sets;
+    }
 
 pub returns : goal.returns
-returns c =    (refl, sum_left (clear? _) (sets_in c.args.sums.now) c.requires.0 c.at-sum.ensures c.is_ring.ensures _ c.if-is_ring.false)
+returns c = record { long = refl; added = sum_left (clear? _) (sets_in c.args.sums.now) c.requires.0 c.at-sum.ensures c.is_ring.ensures _ c.if-is_ring.false }

@@ -1,13 +1,10 @@
 -- Each old set is summed with the ring, and stands after them all at its own place. Assumes nothing.
-use mathlib.Core.Path.{◌≡◌, refl, ◌∙◌}
+use mathlib.Core.Path.{◌≡◌}
 use Prim.Native.Nat.{◌-◌}
-use native.Mathlib.Omega.{arith}
 use lib.ListN.{length}
 use Rattle.sets.specs.Bond.{bits}
 use Rattle.sets.specs.Lists.{sets_in}
-use Rattle.sets.proofs.Lists.{sets-length}
-use Rattle.combining.proofs.Combining.{Doubling, doubling_none, doubling_more, doubling_all}
-use borrow.Author.Rules.{rules}
+use Rattle.combining.proofs.Combining.{Doubling}
 use Rattle.combining.proofs.double.Given as goal
 
 abbrev pub invariant-loop-j : goal.invariant-loop-j
@@ -15,4 +12,3 @@ invariant-loop-j l = (length l.sums ≡ length l.initial.sums) × Doubling (sets
 
 abbrev pub decreases-loop-j : goal.decreases-loop-j
 decreases-loop-j l = l.half - l.j
-

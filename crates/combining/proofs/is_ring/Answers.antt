@@ -1,10 +1,6 @@
 -- The sum is compared with each of the rings found, two in a turn. Assumes nothing.
-use Prim.Native.Nat.{◌-◌}
 use native.Mathlib.Omega.{arith}
-use Rattle.sets.specs.Bond.{bits}
-use Rattle.sets.specs.Lists.{sets_in}
-use Rattle.combining.proofs.Combining.{Tested, tested_none, tested_more, tested_broken, tested_last, tested_all}
-use borrow.Author.Rules.{rules}
+use Rattle.combining.proofs.Combining.{tested_none, tested_more, tested_broken, tested_last, tested_all}
 use Rattle.combining.proofs.is_ring.Goals as goal
 
 pub loop-i-init : goal.loop-i-init
@@ -17,16 +13,16 @@ pub at-requires-in-loop-i : goal.at-requires-in-loop-i
 at-requires-in-loop-i c = omega (arith, c.loop-i.invariant.few)
 
 pub returns-then-one-next : goal.returns-then-one-next
-returns-then-one-next c =    tested_broken c.loop-i.invariant (omega arith) c.at.ensures c.at-in-loop-i.ensures c.inside-one.ensures c.inside-next.ensures c.if-one-next.true
+returns-then-one-next c = tested_broken c.loop-i.invariant (omega arith) c.at.ensures c.at-in-loop-i.ensures c.inside-one.ensures c.inside-next.ensures c.if-one-next.true
 
 pub loop-i-preserved : goal.loop-i-preserved
-loop-i-preserved c =    tested_more c.loop-i.invariant (omega arith) c.at.ensures c.at-in-loop-i.ensures c.inside-one.ensures c.inside-next.ensures c.if-one-next.false
+loop-i-preserved c = tested_more c.loop-i.invariant (omega arith) c.at.ensures c.at-in-loop-i.ensures c.inside-one.ensures c.inside-next.ensures c.if-one-next.false
 
 pub at-requires-then-i-to : goal.at-requires-then-i-to
 at-requires-then-i-to c = omega (arith, c.loop-i.invariant.few)
 
 pub returns-then-i-to : goal.returns-then-i-to
-returns-then-i-to c =    tested_last c.loop-i.invariant (omega arith) (omega arith) c.at-then-i-to.ensures c.inside.ensures
+returns-then-i-to c = tested_last c.loop-i.invariant (omega arith) (omega arith) c.at-then-i-to.ensures c.inside.ensures
 
 pub returns : goal.returns
 returns c = tested_all c.loop-i.invariant (omega arith)

@@ -14,7 +14,7 @@ put_head-next-requires c =    head-fits c.args.out.now _ _ _ c.requires.2
 
 pub put_numbers-requires : goal.put_numbers-requires
 put_numbers-requires c =    let head = c.put_head-next in
-    (c.requires.0, c.requires.1, content_fits _ _ _ _ c.requires.2 (numbers_bytes _ _ _ c.requires.1) head.ensures head.auto.1.1.0)
+    (c.requires.0, c.requires.1, content_fits _ _ _ _ c.requires.2 (numbers_bytes _ _ _ c.requires.1) head.ensures head.auto.out)
 
 pub returns : goal.returns
 returns c =    field_appended _ _ _ _ c.requires.2 (numbers_bytes _ _ _ c.requires.1) c.put_head-next.ensures c.put_numbers.ensures

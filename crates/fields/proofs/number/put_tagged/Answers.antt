@@ -7,9 +7,6 @@ use Rattle.lent.proofs.Appending.{appended_byte, appended_more}
 use borrow.Author.Rules.{rules}
 use Rattle.fields.proofs.number.put_tagged.Goals as goal
 
-pub shape_of-out : goal.shape_of-out
-shape_of-out c = c.put_number.auto.1.1.0 ∙ simp length-set
-
 pub returns : goal.returns
 returns c =    let h : c.args.at < length c.args.out.now = omega arith in
     appended_more (omega arith) (appended_byte c.args.out.now c.args.at c.args.tag h) c.put_number.ensures

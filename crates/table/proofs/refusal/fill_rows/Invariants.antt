@@ -1,19 +1,13 @@
 -- A search: before each turn each row holds the bonds tried so far that meet its atom, and none of these has the two atoms of another.
 -- Assumes nothing.
-use mathlib.Core.Path.{◌≡◌, refl}
+use mathlib.Core.Path.{◌≡◌}
 use mathlib.Core.Bool.{false}
 use Prim.Native.Nat.{◌/◌, ◌-◌, ◌≤◌}
-use native.Mathlib.Omega.{arith}
-use borrow.Author.Rules.{rules}
 use lib.ListN.{length}
 use Rattle.definitions.specs.Search.{some?}
-use Rattle.definitions.specs.Table.{tail, head, seen_before?}
-use Rattle.definitions.proofs.Tests.{some-none, some_more, some-found, some_end, clashes}
+use Rattle.definitions.specs.Table.{seen_before?}
 use Rattle.table.specs.Ends.{bonds_alone}
 use Rattle.table.specs.Rows.{Rowed}
-use Rattle.table.proofs.Fitting.{EndAt, ends-inside}
-use Rattle.table.proofs.Rowing.{put-room, rowed_more, rowed_all}
-use Rattle.table.proofs.Doubling.{rowed_seen}
 use Rattle.table.proofs.refusal.fill_rows.Given as goal
 
 abbrev pub invariant-loop-k : goal.invariant-loop-k
@@ -21,4 +15,3 @@ invariant-loop-k l = (l.k ≤ length l.bonds / 2) × Rowed l.bonds l.k l.rows ×
 
 abbrev pub decreases-loop-k : goal.decreases-loop-k
 decreases-loop-k l = length l.bonds / 2 - l.k
-

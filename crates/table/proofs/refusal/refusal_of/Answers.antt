@@ -1,5 +1,4 @@
 -- A list of zeros holds the rows before the first bond. Assumes nothing.
-use borrow.Author.Rules.{rules}
 use Rattle.table.proofs.Rowing.{rowed-none}
 use Rattle.table.proofs.refusal.refusal_of.Goals as goal
 

@@ -1,22 +1,18 @@
 -- Before each turn it is told of the bonds tried so far whether one is wrong. Assumes nothing.
-use mathlib.Core.Path.{◌≡◌, sym}
-use Prim.Native.Nat.{◌≤◌, ◌/◌, ◌-◌}
+use mathlib.Core.Path.{sym}
 use native.Mathlib.Omega.{arith}
-use borrow.Author.Rules.{rules}
-use lib.ListN.{length}
-use Rattle.definitions.specs.Search.{some?}
-use Rattle.definitions.specs.Table.{table, bad_end?, self_bond?}
 use Rattle.definitions.proofs.Tests.{some-none, some_or, some-last}
-use Rattle.table.specs.Ends.{bonds_alone}
 use Rattle.table.proofs.refusal.wrong_ends.Goals as goal
 
 pub loop-k-init : goal.loop-k-init
 loop-k-init c = (omega arith, sym (some-none _), sym (some-none _))
 
 pub loop-k-preserved : goal.loop-k-preserved
-loop-k-preserved c =    let (within, outside, same) = c.loop-k.invariant in
+loop-k-preserved c =
+    let (within, outside, same) = c.loop-k.invariant in
     (omega arith, some_or _ outside c.bad_end-outside.ensures, some_or _ same c.self_bond-same.ensures)
 
 pub returns : goal.returns
-returns c =    let (within, outside, same) = c.loop-k.invariant in
-    (some-last _ within c.loop-k-test.false outside, some-last _ within c.loop-k-test.false same)
+returns c =
+    let (within, outside, same) = c.loop-k.invariant in
+    record { outside = some-last _ within c.loop-k-test.false outside; same = some-last _ within c.loop-k-test.false same }

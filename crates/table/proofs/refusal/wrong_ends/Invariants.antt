@@ -1,12 +1,9 @@
 -- Before each turn it is told of the bonds tried so far whether one is wrong. Assumes nothing.
-use mathlib.Core.Path.{◌≡◌, sym}
+use mathlib.Core.Path.{◌≡◌}
 use Prim.Native.Nat.{◌≤◌, ◌/◌, ◌-◌}
-use native.Mathlib.Omega.{arith}
-use borrow.Author.Rules.{rules}
 use lib.ListN.{length}
 use Rattle.definitions.specs.Search.{some?}
 use Rattle.definitions.specs.Table.{table, bad_end?, self_bond?}
-use Rattle.definitions.proofs.Tests.{some-none, some_or, some-last}
 use Rattle.table.specs.Ends.{bonds_alone}
 use Rattle.table.proofs.refusal.wrong_ends.Given as goal
 
@@ -16,4 +13,3 @@ invariant-loop-k l =
 
 abbrev pub decreases-loop-k : goal.decreases-loop-k
 decreases-loop-k l = length l.bonds / 2 - l.k
-

@@ -1,0 +1,33 @@
+-- What is found is the ring itself, which is counted under its size in both lists. Assumes nothing.
+use mathlib.Core.Path.{ap, ◌∙◌}
+use Prim.Native.Nat.{◌<◌}
+use native.Mathlib.Omega.{arith}
+use Rattle.sets.specs.Bits.{size}
+use Rattle.sets.specs.Ring.{room}
+use Rattle.sets.proofs.Lists.{sets-whole}
+use Rattle.sets.proofs.Machine.{ring-lt}
+use Rattle.definitions.specs.Table.{max_bonds}
+use Rattle.rings.proofs.Tallying.{single_inside, both_single}
+use borrow.Author.Rules.{rules}
+use Rattle.rings.proofs.tally.count_alone.Goals as goal
+use Rattle.rings.proofs.tally.count_alone.Goals.{After-next}
+
+-- the ring has a place
+inside : (c : After-next) → c.next.result < room
+inside c =
+    single_inside c.requires.0 (ring-lt c.args.members (search rules)) c.next.ensures
+
+
+pub at-requires : goal.at-requires
+at-requires c = omega (arith, inside (goal.at.at-requires c).After-next, sets-whole max_bonds c.args.rings.now (search rules))
+
+pub overflow_add-all : goal.overflow_add-all
+overflow_add-all c = omega (arith, c.requires.1.fits c.size-size.result)
+
+pub overflow_add-smallest : goal.overflow_add-smallest
+overflow_add-smallest c = omega (arith, c.requires.2.fits c.size-size.result)
+
+pub returns : goal.returns
+returns c =    let (single, all, smallest) = c.requires in
+    both_single single (ring-lt c.args.members (search rules)) c.next.ensures all smallest
+    (c.size-size.ensures.0 ∙ ap size c.at.ensures) (omega (arith, c.size-size.ensures.1))
