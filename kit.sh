@@ -8,9 +8,9 @@ kit=$(dirname "$(dirname "$(readlink -f "$(command -v rt)")")")
 tools=$kit/toolchain
 linker=$kit/bin/rattle-link
 
-# where rt leaves a program, and the library, below the top of the repository
+# where rt leaves a program, and where the library's archive stands, below the top of the repository
 program_of() { printf 'crates/%s/out/%s' "$1" "$1"; }
-library=crates/foliocrane/out/libfoliocrane.a
+library=target/staticlib/libfoliocrane.a
 
 # standing ROOT: the kit, and what stands in each crate's folder beside the folder out, which is rt's own.
 standing() { (cd "$1" && printf '%s\n' "$(cat "$kit/KIT-ID" 2>/dev/null)" crates/*/* | grep -v '/out$'); }
@@ -71,5 +71,10 @@ build() {
     rm -rf "$room"
 }
 
-# build_library ROOT LOG: proves the library anew and builds its archive, for every x86-64 processor.
-build_library() { prove "$1/crates/foliocrane" "$2" lib --cpu=x86-64; }
+# build_library ROOT LOG: proves the library anew and builds its archive, for every x86-64 processor. rt leaves it in a folder that rt ci
+# clears.
+build_library() {
+    prove "$1/crates/foliocrane_c" "$2" lib --cpu=x86-64 || return 1
+    mkdir -p "$1/${library%/*}"
+    cp "$1/crates/foliocrane_c/out/libfoliocrane_c.a" "$1/$library"
+}
