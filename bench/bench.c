@@ -106,10 +106,8 @@ static int try_group(size_t g) {
     return 1;
 }
 
-int main(int count, char **words) {
-    (void)words;
-    printf("x86-64 code, the library and the walking by the same clang at -O3 for the first x86-64%s\n",
-           count > 1 ? ", both under the kit's emulator: these times say nothing of an x86-64 processor" : "");
+int main(void) {
+    printf("x86-64 code, the library and the walking by the same clang at -O3 for the first x86-64\n");
     printf("processor time, best of %d rounds, the sides in turn\n", ROUNDS);
     printf("buffers: the lent list is not cleared between calls, on either side; walking does not clear its own; the library clears its own\n"
            "in every call, as the language has no array without values, and that is in its time\n");

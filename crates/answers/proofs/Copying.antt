@@ -7,7 +7,7 @@ use native.Mathlib.Nat.{le_antisymm}
 use native.Mathlib.Omega.{arith}
 use lib.ListN.{length, take, get_or}
 use lib.Seq.{take-suc}
-use Rattle.sets.specs.Lists.{words, sets_in, words_of, in_words, Put}
+use Rattle.sets.specs.Lists.{sets_in, words_of, in_words, Put}
 use Rattle.sets.proofs.Lists.{sets-long, sets-room, in_words-none, in_words-length, in_words-append, words-none, words_more, words_mono}
 use Rattle.definitions.specs.Answer.{over}
 use Rattle.lent.specs.Appended.{Appended}

@@ -15,7 +15,7 @@ use Rattle.sets.specs.Bits.{has, Sub, meet, put, without, IsNext, size}
 use Rattle.sets.specs.Ring.{room}
 use Rattle.sets.proofs.Laws.{has-or, has-zero, has-with, has-without}
 use Rattle.sets.proofs.Size.{size-sub, sub_same}
-use Rattle.sets.proofs.Members.{common, apart, meet_of}
+use Rattle.sets.proofs.Members.{common, meet_of}
 use Rattle.sets.proofs.Machine.{put_below}
 use Rattle.definitions.specs.Assembly.{Linked}
 use Rattle.definitions.specs.Assembly.Linked.{same, by as shares}

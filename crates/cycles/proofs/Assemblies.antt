@@ -26,10 +26,12 @@ use Rattle.definitions.proofs.Linking.{linked_test}
 use Rattle.spans.proofs.Choice.{Independent}
 use Rattle.cycles.proofs.Parity.{parity_ext, parity_some}
 use Rattle.cycles.proofs.Sums.{has-sum, sum-listed, listed-listed}
-use Rattle.cycles.proofs.Evens.{member-some, even_top}
+use Rattle.cycles.proofs.Evens.{member-some}
+use Rattle.cycles.proofs.Closures.{even_top}
 use Rattle.cycles.proofs.BasisRings.{basis-at}
 use Rattle.cycles.proofs.EvenSums.{closes_in, Picks, ring_sum, closure_tested, ring-sum-even, ring-sum-at, even_sum}
 use Rattle.cycles.proofs.BasisList.{place_of, place-lt, place-ring, place_find, basis-rings_are_rings, chosen_at, rings_independent}
+use Rattle.cycles.proofs.Together.{Together, alone, held}
 
 -- a condition that follows may be added
 guard : (a c d : Bool) → (a ≡ true → d ≡ true → c ≡ true) → a && d ≡ (a && c) && d
@@ -210,11 +212,6 @@ module _ {M : Table} (valid : Valid M) where
   )
 
 -- ---- the bonds of an assembly as a class
-
--- some ring holds both bonds, or a chain of such rings joins them
-pub data Together (M : Table) : ℕ → ℕ → Type 0 where
-  alone : {b : ℕ} → Together M b b
-  held : {a b c : ℕ} (s : ℕ) → Ring M s → has s a ≡ true → has s b ≡ true → Together M b c → Together M a c
 
 module _ {M : Table} (valid : Valid M) where
   -- bonds of linked basis rings are together

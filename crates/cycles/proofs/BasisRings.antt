@@ -26,7 +26,9 @@ use Rattle.definitions.proofs.Refusals.{Valid}
 use Rattle.definitions.proofs.Paths.{with_new, with_old, with-other, path-bonds, closure_test, has-forest, forest-path}
 use Rattle.definitions.proofs.Rings.{even_test}
 use Rattle.cycles.proofs.Xor.{xor_self, xor_comm, sums}
-use Rattle.cycles.proofs.Evens.{odd_at, odd_xor, odd_zero, odd_pow, even_of, member-some, meets_xor, even_top, even-eq}
+use Rattle.cycles.proofs.Evens.{odd_at, odd_xor, odd_zero, odd_pow, even_of, member-some, meets_xor}
+use Rattle.cycles.proofs.Closures.{even_top, even-eq}
+use Rattle.cycles.proofs.Fundamental.{Fundamental}
 
 -- one member more is a sum
 pub with-xor : (s k : ℕ) → has s k ≡ false → with s k ≡ bit_xor s (2 ^ k)
@@ -57,12 +59,6 @@ module _ {M : Table} (valid : Valid M) where
       ∙ ap₂ xor (path_odd r v) (odd_pow M j v l ∙ joins_meets joins v l) ∙ simp sums
 
 -- ---- the even set of a closure bond and forest bonds
-
--- s is an even set of bond k and forest bonds
-pub record Fundamental (M : Table) (k s : ℕ) : Type 0 where
-  pub even : Even M s
-  pub member : has s k ≡ true
-  pub tree : (j : ℕ) → has s j ≡ true → j ≢ k → has (forest M) j ≡ true
 
 -- the number that alone passes is the first that does
 first_of-one : (n : ℕ) (p : ℕ → Bool) (x : ℕ) → x < n → p x ≡ true → ((y : ℕ) → p y ≡ true → y ≡ x) → get_or (those n p) 0 0 ≡ x

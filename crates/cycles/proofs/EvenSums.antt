@@ -13,7 +13,8 @@ use Rattle.definitions.proofs.Refusals.{Valid}
 use Rattle.definitions.proofs.Paths.{closure_test}
 use Rattle.cycles.proofs.Parity.{parity_one}
 use Rattle.cycles.proofs.Sums.{sum_below, has-sum}
-use Rattle.cycles.proofs.Evens.{even-zero, even-xor, even-eq}
+use Rattle.cycles.proofs.Evens.{even-zero, even-xor}
+use Rattle.cycles.proofs.Closures.{even-eq}
 use Rattle.cycles.proofs.BasisRings.{basis-even, basis-at, basis-has}
 
 -- a sum of even sets is even

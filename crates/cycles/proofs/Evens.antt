@@ -1,19 +1,18 @@
 -- Even sets. The parity of a set's bonds at an atom is additive, so even sets are closed under sums. The highest bond of a non-empty
 -- even set is a closure bond: the atoms joined to one end of it by lower bonds are met by an even number of bonds of the set, of
--- which a lower one counts twice or not at all. So an even set is known by its closure bonds. Assumes nothing.
+-- which a lower one counts twice or not at all. Assumes nothing.
 use mathlib.Core.Path.{◌≡◌, refl, sym, ap, ap₂, ◌∙◌}
 use mathlib.Core.Logic.{◌≢◌}
 use mathlib.Core.Bool.{Bool, true, false, cond, ◌&&◌, xor, and-false, and-true}
 use Prim.Native.Nat.{ℕ, suc, ◌%◌, ◌^◌, ◌<◌}
-use native.Mathlib.Nat.{pos_of_ne-zero}
 use native.Mathlib.Omega.{arith}
 use lib.Bits.{bit_xor, xor_lt}
 use lib.Dec.{eqb, ltb}
 use lib.ListN.{get_or}
 use lib.Pow.{pow_pos}
-use borrow.Author.Tests.{ltb-true, ltb-false, eqb-true, eqb-false, eq-eqb, ne_eqb}
+use borrow.Author.Tests.{ltb-true, ltb-false, eqb-true, eq-eqb, ne_eqb}
 use Rattle.sets.specs.Bits.{has}
-use Rattle.sets.proofs.Laws.{ext, has-xor, has-zero, has-pow, has_above, member_below, highest}
+use Rattle.sets.proofs.Laws.{has-xor, has-zero, has-pow, has_above, member_below}
 use Rattle.definitions.specs.Table.{Table, bonds, tail, head, meets?}
 use Rattle.definitions.specs.Ring.{degree, Even}
 use Rattle.definitions.specs.Basis.{Closure, closure?, fragments}
@@ -157,25 +156,3 @@ module _ {M : Table} (valid : Valid M) where
       even =
           sym (ap (λ (x : Bool). x && xor (C (tail M k)) (C (head M k))) h)
           ∙ sym (parity_one (bonds M) k _ bond other) ∙ cut e C
-
-  -- a non-empty even set has a highest bond, and it is a closure bond
-  pub even_top : {s : ℕ} → Even M s → s ≢ 0 → (k : ℕ) × (has s k ≡ true) × (s < 2 ^ suc k) × Closure M k
-  even_top {s} e some =
-      let (k, h, top) = highest s (pos_of_ne-zero some) in
-      (k, h, top, top_closure e h top)
-
-  -- an even set with no closure bond is empty
-  pub forest_empty : {s : ℕ} → Even M s → ((k : ℕ) → Closure M k → has s k ≡ false) → s ≡ 0
-  forest_empty {s} e h =
-      by (eqb s 0) (λ z. eqb-true s 0 z)
-      (λ z. let (k, m, _, c) = even_top e (eqb-false s 0 z) in clashes m (h k c))
-
-  -- two even sets with the same closure bonds are one
-  pub even-eq : {s t : ℕ} → Even M s → Even M t → ((k : ℕ) → Closure M k → has s k ≡ has t k) → s ≡ t
-  even-eq {s} {t} e f h =
-      ext s t (λ k. xor-eq (has s k) (has t k) (sym (has-xor s t k) ∙ ap (λ (x : ℕ). has x k) none ∙ has-zero k))
-    where
-      none : bit_xor s t ≡ 0
-      none =
-          forest_empty (even-xor M e f)
-          (λ k c. has-xor s t k ∙ ap (λ (x : Bool). xor x (has t k)) (h k c) ∙ xor_self (has t k))

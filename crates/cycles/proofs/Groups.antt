@@ -32,7 +32,8 @@ use Rattle.spans.proofs.Spans.{xor_undo, span_sub}
 use Rattle.spans.proofs.Choice.{sum→span, span→sum}
 use Rattle.cycles.proofs.Xor.{xor_self as xor_same, false-xor}
 use Rattle.cycles.proofs.Sums.{sum-listed, sum_upto, sum_lt, take-listed}
-use Rattle.cycles.proofs.Evens.{member-some, even-xor, even_top}
+use Rattle.cycles.proofs.Evens.{member-some, even-xor}
+use Rattle.cycles.proofs.Closures.{even_top}
 use Rattle.cycles.proofs.BasisRings.{basis-even, basis-has, basis_top}
 use Rattle.cycles.proofs.EvenSums.{Picks, ring-sum-at}
 use Rattle.cycles.proofs.BasisList.{place_of, place-lt}

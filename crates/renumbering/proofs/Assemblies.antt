@@ -27,7 +27,8 @@ use Rattle.spans.proofs.Choice.{independent_iff_indep, sum→span, span→sum}
 use Rattle.spans.proofs.Invariant.{map_span, image_length}
 use Rattle.cycles.proofs.BasisRings.{basis-even}
 use Rattle.cycles.proofs.BasisList.{place-lt, basis-rings_are_rings}
-use Rattle.cycles.proofs.Assemblies.{assembly_bonds, assembly_bond, assembly_evens, assembly_independent, assemblies_disjoint, ring_in_one_assembly, Together, alone, held, assembly_class}
+use Rattle.cycles.proofs.Together.{Together, alone, held}
+use Rattle.cycles.proofs.Assemblies.{assembly_bonds, assembly_bond, assembly_evens, assembly_independent, assemblies_disjoint, ring_in_one_assembly, assembly_class}
 use Rattle.renumbering.specs.Renumbered.{Renumbered}
 use Rattle.renumbering.proofs.Matching.{matched_count}
 use Rattle.renumbering.proofs.Images.{carried, image_xor, image_new, image_member, image_sub, image_one, image_none, size_image}

@@ -19,7 +19,8 @@ use Rattle.definitions.proofs.Lists.{keep_in, fresh_keep}
 use Rattle.definitions.proofs.Rings.{all_rings_are, all_rings_sorted, all_rings_fresh}
 use Rattle.spans.proofs.Spans.{Span, none, skip, add, xor_cancel}
 use Rattle.spans.proofs.Counts.{upto, light, length_light, same-occurs}
-use Rattle.spans.proofs.Invariant.{Carries, invariant_occurs}
+use Rattle.spans.proofs.Carries.{Carries}
+use Rattle.spans.proofs.Invariant.{invariant_occurs}
 use Rattle.spans.proofs.Smallest.{before-rising}
 use Rattle.cycles.proofs.Evens.{even-zero, even-xor}
 use Rattle.cycles.proofs.Smallest.{smallest_basis_theorem, smallest_basis_sizes}

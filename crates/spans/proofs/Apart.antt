@@ -27,7 +27,8 @@ use Rattle.definitions.proofs.Sorting.{sort_weak, sort_in, before_order, occurs-
 use Rattle.spans.proofs.Spans.{Span, none, skip, add, Indep, empty, more, span_in, span_eq, span_sum, span_sub, xor_cancel, xor-left_comm}
 use Rattle.spans.proofs.Taking.{taking_in, taking_indep}
 use Rattle.spans.proofs.Counts.{light, upto, same-occurs}
-use Rattle.spans.proofs.Lightest.{Rising, in_reached, light_most, taking_light, taking-most}
+use Rattle.spans.proofs.Rising.{Rising}
+use Rattle.spans.proofs.Lightest.{in_reached, light_most, taking_light, taking-most}
 use Rattle.spans.proofs.Smallest.{weak_rising}
 
 -- ---- what two lists span

@@ -7,7 +7,6 @@ use mathlib.Core.List.Memᴰ.{head as here}
 use mathlib.Core.List.Memᴰ.{tail as there}
 use mathlib.Core.List.{List, [], ◌∷◌, Memᴰ as In}
 use Prim.Native.Nat.{ℕ, suc, ◌≤◌}
-use native.Mathlib.Nat.{le_antisymm}
 use native.Mathlib.Omega.{arith}
 use lib.ListN.{length}
 use lib.Bits.{bit_xor}
@@ -63,7 +62,3 @@ exchange (v ∷ vs) ws h d =
       | inl all ↦ (let l = exchange vs ws all d in omega arith)
       | inr p ↦ (let l = exchange vs p.list p.low p.indep in omega (arith, p.long))
     ]
-
--- two independent lists that span each other are equally long
-pub same_length : (us vs : List ℕ) → Indep us → Indep vs → ((x : ℕ) → In x us → Span vs x) → ((x : ℕ) → In x vs → Span us x) → length us ≡ length vs
-same_length us vs d e up down = le_antisymm (exchange vs us up d) (exchange us vs down e)

@@ -13,23 +13,12 @@ use Rattle.definitions.specs.Label.{occurs}
 use Rattle.definitions.specs.Smallest.{taking}
 use Rattle.definitions.proofs.Lists.{map_ext}
 use Rattle.spans.proofs.Spans.{Span, Indep, none, skip, add, empty, more, each, span_in, span_eq, span_sum, span_sub, xor_cancel, xor_undo}
-use Rattle.spans.proofs.Exchange.{same_length}
+use Rattle.spans.proofs.Lengths.{same_length}
 use Rattle.spans.proofs.Taking.{taking_in, taking_indep}
 use Rattle.spans.proofs.Counts.{upto, same-occurs}
-use Rattle.spans.proofs.Lightest.{Rising, taking-most, in_reached, Reached}
-
--- f keeps sums
-abbrev pub Additive : (ℕ → ℕ) → Type 0
-Additive f = (x y : ℕ) → f (bit_xor x y) ≡ bit_xor (f x) (f y)
-
--- f carries xs to ys: it keeps sums, and weights by w as weights by u, is one-to-one on the span of xs, and takes the sets of xs onto
--- those of ys
-pub record Carries (w u f : ℕ → ℕ) (xs ys : List ℕ) : Type 0 where
-  pub additive : Additive f
-  pub kernel : (x : ℕ) → Span xs x → f x ≡ 0 → x ≡ 0
-  pub weight : (x : ℕ) → In x xs → u (f x) ≡ w x
-  pub into : (x : ℕ) → In x xs → In (f x) ys
-  pub onto : (y : ℕ) → In y ys → (x : ℕ) × In x xs × (f x ≡ y)
+use Rattle.spans.proofs.Rising.{Rising}
+use Rattle.spans.proofs.Carries.{Additive, Carries}
+use Rattle.spans.proofs.Lightest.{taking-most, in_reached, Reached}
 
 -- what holds of the images holds of each set of the list of images
 in_map : (f : ℕ → ℕ) (P : ℕ → Type 0) (xs : List ℕ) → ((x : ℕ) → In x xs → P (f x)) → (y : ℕ) → In y (map f xs) → P y

@@ -14,16 +14,14 @@ use borrow.Author.Tests.{le-leb, leb-true}
 use Rattle.definitions.specs.Search.{total}
 use Rattle.definitions.specs.Label.{occurs}
 use Rattle.definitions.specs.Smallest.{taking}
-use Rattle.definitions.proofs.Lists.{Sorted, sorted_more, keep_in, keep-take}
+use Rattle.definitions.proofs.Lists.{sorted_more, keep_in, keep-take}
 use Rattle.spans.proofs.Spans.{Span, Indep, span_in, span_eq, span_sub, span_trans}
 use Rattle.spans.proofs.Choice.{from_middle, indep_sub}
-use Rattle.spans.proofs.Exchange.{exchange, same_length}
+use Rattle.spans.proofs.Exchange.{exchange}
+use Rattle.spans.proofs.Lengths.{same_length}
 use Rattle.spans.proofs.Taking.{Run, done, leave, keep, run, taking_in, taking_indep, taking_holds}
+use Rattle.spans.proofs.Rising.{Rising}
 use Rattle.spans.proofs.Counts.{light, upto, length_light, keep-sub, lighter, same_upto, same-occurs}
-
--- the list rises: each set weighs at most as much as any after it
-abbrev pub Rising : (ℕ → ℕ) → List ℕ → Type 0
-Rising w xs = Sorted (λ x y. leb (w x) (w y)) xs
 
 module _ (w : ℕ → ℕ) where
   -- a set of weight at most t is among the light ones

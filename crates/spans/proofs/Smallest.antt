@@ -17,7 +17,8 @@ use Rattle.definitions.proofs.Tests.{clashes, not_failed}
 use Rattle.definitions.proofs.Sorting.{Sorted, sorted_none, sorted_more, SortedWeak, weak_none, weak_more, sorted_weak, before_order, before_reads}
 use Rattle.spans.proofs.Choice.{NoneOfOthers, others_iff_indep, sum→span, span→sum}
 use Rattle.spans.proofs.Taking.{taking_in, taking_indep, taking_holds}
-use Rattle.spans.proofs.Lightest.{Rising, Basis, basis_of_lem, basis-length, taking-least, lightest_occurs}
+use Rattle.spans.proofs.Rising.{Rising}
+use Rattle.spans.proofs.Lightest.{Basis, basis_of_lem, basis-length, taking-least, lightest_occurs}
 
 -- a list in the order of all rings is in rising size, with repeats
 pub weak_rising : {xs : List ℕ} → SortedWeak before xs → Rising size xs

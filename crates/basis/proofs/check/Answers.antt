@@ -1,7 +1,6 @@
 -- The number and the count of the basis rings are what is told. Assumes nothing.
 use mathlib.Core.Path.{refl}
 use Rattle.basis.proofs.Holding.{basis-told}
-use borrow.Author.Rules.{rules}
 use Rattle.basis.proofs.check.Goals as goal
 
 pub returns : goal.returns

@@ -1,13 +1,11 @@
 -- What is left differs from the ring by a sum of sets kept, and its lowest bond rises until no set is kept there. Assumes nothing.
-use Prim.Native.Nat.{◌-◌}
 use native.Mathlib.Omega.{arith}
-use Rattle.sets.specs.Bond.{bits, room}
-use Rattle.sets.specs.Lists.{sets_in}
+use Rattle.sets.specs.Bond.{room}
 use Rattle.sets.proofs.Lists.{sets-whole}
 use Rattle.sets.proofs.Machine.{bond-lt}
 use Rattle.sets.proofs.Upto.{next_rises}
 use Rattle.definitions.specs.Table.{max_bonds}
-use Rattle.spans.proofs.Elimination.{Reducing, reducing_start, reducing_step, reducing_stop, reducing_end}
+use Rattle.spans.proofs.Elimination.{reducing_start, reducing_step, reducing_stop, reducing_end}
 use borrow.Author.Rules.{rules}
 use Rattle.choosing.proofs.left_of.Goals as goal
 
@@ -18,13 +16,13 @@ pub at-other-requires : goal.at-other-requires
 at-other-requires c = omega (arith, sets-whole max_bonds c.args.kept.now (search rules))
 
 pub returns-then-is_empty : goal.returns-then-is_empty
-returns-then-is_empty c =    reducing_stop c.loop-k.invariant (omega arith) c.at-other.ensures c.is_empty.ensures c.if-is_empty.true
+returns-then-is_empty c = reducing_stop c.loop-k.invariant (omega arith) c.at-other.ensures c.is_empty.ensures c.if-is_empty.true
 
 pub loop-k-smaller : goal.loop-k-smaller
 loop-k-smaller c = omega (arith, next_rises room _ _ _ (search rules) c.next-k-in-loop-k.ensures)
 
 pub loop-k-preserved : goal.loop-k-preserved
-loop-k-preserved c =    reducing_step c.loop-k.invariant (omega arith) c.at-other.ensures c.is_empty.ensures c.requires c.if-is_empty.false
+loop-k-preserved c = reducing_step c.loop-k.invariant (omega arith) c.at-other.ensures c.is_empty.ensures c.requires c.if-is_empty.false
     c.sum-rest.ensures (bond-lt c.sum-rest.result (search rules)) c.next-k-in-loop-k.ensures
 
 pub returns : goal.returns

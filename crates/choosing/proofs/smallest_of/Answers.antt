@@ -1,12 +1,9 @@
 -- The rings are gone through in order until as many are taken as are wanted. Assumes nothing.
-use mathlib.Core.Path.{◌≡◌, refl}
-use Prim.Native.Nat.{◌-◌}
+use mathlib.Core.Path.{refl}
 use native.Mathlib.Omega.{arith}
-use lib.ListN.{length}
 use Rattle.sets.specs.Bond.{room}
-use Rattle.sets.specs.Lists.{sets_in}
 use Rattle.sets.proofs.Lists.{sets-blank}
-use Rattle.choosing.proofs.Selecting.{Selecting, selecting_none, selecting_room, selecting_more, selecting_full, selecting_all}
+use Rattle.choosing.proofs.Selecting.{selecting_none, selecting_room, selecting_more, selecting_full, selecting_all}
 use borrow.Author.Rules.{rules}
 use Rattle.choosing.proofs.smallest_of.Goals as goal
 
@@ -23,10 +20,10 @@ pub at-requires : goal.at-requires
 at-requires c = omega (arith, c.requires.within)
 
 pub take_new-count-requires : goal.take_new-count-requires
-take_new-count-requires c =    (c.loop-i.invariant.1.state, selecting_room c.requires c.loop-i.invariant.1 c.if-count-want.false)
+take_new-count-requires c = (c.loop-i.invariant.1.state, selecting_room c.requires c.loop-i.invariant.1 c.if-count-want.false)
 
 pub loop-i-preserved : goal.loop-i-preserved
-loop-i-preserved c =    (search rules, selecting_more c.requires c.loop-i.invariant.1 (omega arith) c.if-count-want.false c.at.ensures c.take_new-count.ensures)
+loop-i-preserved c = (search rules, selecting_more c.requires c.loop-i.invariant.1 (omega arith) c.if-count-want.false c.at.ensures c.take_new-count.ensures)
 
 pub shape_of-taken : goal.shape_of-taken
 shape_of-taken c = c.loop-i.invariant.0

@@ -1,13 +1,9 @@
 -- The rings are gone through in order until as many are taken as are wanted. Assumes nothing.
-use mathlib.Core.Path.{◌≡◌, refl}
+use mathlib.Core.Path.{◌≡◌}
 use Prim.Native.Nat.{◌-◌}
-use native.Mathlib.Omega.{arith}
 use lib.ListN.{length}
-use Rattle.sets.specs.Bond.{room}
 use Rattle.sets.specs.Lists.{sets_in}
-use Rattle.sets.proofs.Lists.{sets-blank}
-use Rattle.choosing.proofs.Selecting.{Selecting, selecting_none, selecting_room, selecting_more, selecting_full, selecting_all}
-use borrow.Author.Rules.{rules}
+use Rattle.choosing.proofs.Selecting.{Selecting}
 use Rattle.choosing.proofs.smallest_of.Given as goal
 
 abbrev pub invariant-loop-i : goal.invariant-loop-i
@@ -16,4 +12,3 @@ invariant-loop-i l =
 
 abbrev pub decreases-loop-i : goal.decreases-loop-i
 decreases-loop-i l = l.n - l.i
-

@@ -15,9 +15,9 @@ pub put_at-requires-then-k-le-LAST : goal.put_at-requires-then-k-le-LAST
 put_at-requires-then-k-le-LAST c = let pre = c.requires in omega (arith, pre.0.lent, pre.1)
 
 pub returns-then-k-le-LAST : goal.returns-then-k-le-LAST
-returns-then-k-le-LAST c =    let pre = c.requires in
+returns-then-k-le-LAST c = let pre = c.requires in
     step_new pre.0 c.left_of-rest.ensures c.next-k.ensures pre.1 (omega arith) c.put_at.ensures.sets c.put_at-then-k-le-LAST.ensures.sets
 
 pub returns : goal.returns
-returns c =    let rest = c.left_of-rest in
+returns c = let rest = c.left_of-rest in
     step_old c.requires.0 rest.ensures c.next-k.ensures (bond-lt rest.result (search rules)) c.if-k-le-LAST.false

@@ -1,6 +1,5 @@
 -- `lookup::bonds_at` meets its contract: the size of the set that stands there. Assumes nothing.
 use mathlib.Core.Path.{◌∙◌, ap}
-use borrow.Author.Rules.{rules}
 use Rattle.sets.specs.Bits.{size}
 use Rattle.lookup.proofs.bonds_at.Goals as goal
 

@@ -1,6 +1,5 @@
 -- `lookup::found` meets its contract: the part from where the search ends to where the run ends. Assumes nothing.
 use native.Mathlib.Omega.{arith}
-use borrow.Author.Rules.{rules}
 use Rattle.lookup.proofs.Laws.{found-room, part-found}
 use Rattle.lookup.proofs.found.Goals as goal
 

@@ -2,12 +2,9 @@
 -- The measure is what is left of the list. Assumes nothing.
 use mathlib.Core.Path.{◌≡◌}
 use Prim.Native.Nat.{◌+◌, ◌-◌}
-use native.Mathlib.Omega.{arith}
 use lib.ListN.{drop}
 use Rattle.sets.specs.Lists.{sets_in}
 use Rattle.lookup.specs.Lookup.{run}
-use Rattle.lookup.proofs.Laws.{run_here, run_on, run_end}
-use borrow.Author.Rules.{rules}
 use Rattle.lookup.proofs.run_end.Given as goal
 
 abbrev pub invariant-loop-i : goal.invariant-loop-i
@@ -15,4 +12,3 @@ invariant-loop-i l = l.start + run l.size (drop l.start (sets_in l.list)) ≡ l.
 
 abbrev pub decreases-loop-i : goal.decreases-loop-i
 decreases-loop-i l = l.n - l.i
-

@@ -2,12 +2,9 @@
 -- the first from there on. The measure is what is left of the list. Assumes nothing.
 use mathlib.Core.Path.{◌≡◌}
 use Prim.Native.Nat.{◌+◌, ◌-◌}
-use native.Mathlib.Omega.{arith}
 use lib.ListN.{drop}
 use Rattle.sets.specs.Lists.{sets_in}
 use Rattle.lookup.specs.Lookup.{start}
-use Rattle.lookup.proofs.Laws.{start_here, start-on, start-end}
-use borrow.Author.Rules.{rules}
 use Rattle.lookup.proofs.run_start.Given as goal
 
 abbrev pub invariant-loop-i : goal.invariant-loop-i
@@ -15,4 +12,3 @@ invariant-loop-i l = start l.size (sets_in l.list) ≡ l.i + start l.size (drop 
 
 abbrev pub decreases-loop-i : goal.decreases-loop-i
 decreases-loop-i l = l.n - l.i
-

@@ -1,16 +1,15 @@
 -- Before each turn the first assemblies are found and the rings of the others are left, the first of them next. Assumes nothing.
 use mathlib.Core.Path.{◌≡◌, refl}
-use Prim.Native.Nat.{◌-◌, ◌≤◌, ◌<◌}
+use Prim.Native.Nat.{◌≤◌, ◌<◌}
 use native.Mathlib.Omega.{arith}
 use lib.ListN.{length, take}
 use lib.Seq.{length-take-le}
 use borrow.Author.Rules.{rules}
-use Rattle.sets.specs.Bits.{IsNext}
-use Rattle.sets.specs.Ring.{bits, room}
+use Rattle.sets.specs.Ring.{room}
 use Rattle.sets.specs.Lists.{sets_in}
 use Rattle.sets.proofs.Lists.{take_min, sets-whole}
 use Rattle.definitions.specs.Table.{max_bonds}
-use Rattle.basis.proofs.Numbering.{Divided, divided_none, left_below, divided_room, divided_more, divided_all}
+use Rattle.basis.proofs.Numbering.{divided_none, left_below, divided_room, divided_more, divided_all}
 use Rattle.basis.proofs.assembly.assemblies_of.Goals as goal
 use Rattle.basis.proofs.assembly.assemblies_of.Goals.{After-sets_up_to-known, In-loop-first}
 

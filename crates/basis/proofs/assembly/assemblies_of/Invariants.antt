@@ -1,16 +1,11 @@
 -- Before each turn the first assemblies are found and the rings of the others are left, the first of them next. Assumes nothing.
-use mathlib.Core.Path.{◌≡◌, refl}
-use Prim.Native.Nat.{◌-◌, ◌≤◌, ◌<◌}
-use native.Mathlib.Omega.{arith}
-use lib.ListN.{length, take}
-use lib.Seq.{length-take-le}
-use borrow.Author.Rules.{rules}
+use Prim.Native.Nat.{◌-◌}
+use lib.ListN.{take}
 use Rattle.sets.specs.Bits.{IsNext}
 use Rattle.sets.specs.Ring.{bits, room}
 use Rattle.sets.specs.Lists.{sets_in}
-use Rattle.sets.proofs.Lists.{take_min, sets-whole}
 use Rattle.definitions.specs.Table.{max_bonds}
-use Rattle.basis.proofs.Numbering.{Divided, divided_none, left_below, divided_room, divided_more, divided_all}
+use Rattle.basis.proofs.Numbering.{Divided}
 use Rattle.basis.proofs.assembly.assemblies_of.Given as goal
 
 abbrev pub invariant-loop-first : goal.invariant-loop-first
@@ -19,4 +14,3 @@ invariant-loop-first l =
 
 abbrev pub decreases-loop-first : goal.decreases-loop-first
 decreases-loop-first l = max_bonds - l.assemblies
-

@@ -1,13 +1,8 @@
 -- Before each turn the members below i have the number at their places. Assumes nothing.
-use Prim.Native.Nat.{◌-◌, ◌<◌}
-use native.Mathlib.Omega.{arith}
-use lib.ListN.{length}
+use Prim.Native.Nat.{◌-◌}
 use Rattle.sets.specs.Ring.{bits, room}
-use Rattle.sets.proofs.Laws.{member_below}
-use Rattle.sets.proofs.Machine.{ring-lt}
-use Rattle.definitions.proofs.Passing.{Passed, passed_next, passed_rises}
-use Rattle.basis.proofs.Writing.{Marked, marked_none, marked_more, marked_all}
-use borrow.Author.Rules.{rules}
+use Rattle.definitions.proofs.Passing.{Passed}
+use Rattle.basis.proofs.Writing.{Marked}
 use Rattle.basis.proofs.assembly.number_members.Given as goal
 
 abbrev pub invariant-loop-i : goal.invariant-loop-i
@@ -15,4 +10,3 @@ invariant-loop-i l = Passed room (bits l.members) l.i × Marked (bits l.members)
 
 abbrev pub decreases-loop-i : goal.decreases-loop-i
 decreases-loop-i l = room - l.i
-

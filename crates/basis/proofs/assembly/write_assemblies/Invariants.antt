@@ -1,14 +1,10 @@
 -- Before each turn the basis rings of the assemblies below a have their numbers at their places. Assumes nothing.
-use mathlib.Core.Path.{◌≡◌, refl, ap, ◌∙◌}
+use mathlib.Core.Path.{◌≡◌}
 use mathlib.Core.List.{List}
 use Prim.Native.Nat.{ℕ, ◌-◌}
-use native.Mathlib.Omega.{arith}
 use lib.ListN.{length}
-use Rattle.sets.specs.Bits.{has}
 use Rattle.basis.specs.Held.{AssembliesOf}
-use Rattle.basis.proofs.Holding.{members-at}
-use Rattle.basis.proofs.Writing.{Assigned, assigned_none, assigned_more, assigned_all}
-use borrow.Author.Rules.{rules}
+use Rattle.basis.proofs.Writing.{Assigned}
 use Rattle.basis.proofs.assembly.write_assemblies.Given as goal
 
 abbrev pub invariant-loop-a : goal.invariant-loop-a
@@ -16,4 +12,3 @@ invariant-loop-a l = (length l.out ≡ length l.initial.out) × ((rs : List ℕ)
 
 abbrev pub decreases-loop-a : goal.decreases-loop-a
 decreases-loop-a l = l.found.count - l.a
-

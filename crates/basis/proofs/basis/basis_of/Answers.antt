@@ -1,11 +1,10 @@
 -- Before each turn the bonds below k are tried, and the rings of the closure bonds among them are in the array. Assumes nothing.
-use mathlib.Core.Path.{◌≡◌, refl, sym, ◌∙◌}
+use mathlib.Core.Path.{refl, sym, ◌∙◌}
 use mathlib.Core.List.{List}
-use Prim.Native.Nat.{ℕ, ◌/◌, ◌-◌, ◌*◌, ◌<◌}
+use Prim.Native.Nat.{ℕ, ◌<◌}
 use native.Mathlib.Omega.{arith}
-use lib.ListN.{length}
 use Rattle.sets.specs.Bond.{bits}
-use Rattle.sets.specs.Lists.{sets_in, words}
+use Rattle.sets.specs.Lists.{sets_in}
 use Rattle.sets.proofs.Lists.{sets-blank}
 use Rattle.definitions.specs.Table.{Table, table, tail, head, max_atoms, max_bonds}
 use Rattle.definitions.proofs.Refusals.{Valid, accepted}
@@ -124,8 +123,8 @@ loop-k-preserved c =
     c.sum.ensures c.with-round.ensures
     in
     elim c.if-one-other.branch [
-      then-one-other w ↦ rw (w.lower-is, w.ways-is, w.rings-is, w.count-is) (w.put_at.ensures.long ∙ c.loop-k.invariant.0, rw w.put_at.ensures.sets (both.0 w.if-one-other.true))
-    | else-one-other w ↦ rw (w.lower-is, w.ways-is, w.rings-is, w.count-is) (c.loop-k.invariant.0, rw (w.join.ensures.0, w.join.ensures.1) (both.1 w.if-one-other.false))
+      | then-one-other w ↦ rw (w.lower-is, w.ways-is, w.rings-is, w.count-is) (w.put_at.ensures.long ∙ c.loop-k.invariant.0, rw w.put_at.ensures.sets (both.0 w.if-one-other.true))
+      | else-one-other w ↦ rw (w.lower-is, w.ways-is, w.rings-is, w.count-is) (c.loop-k.invariant.0, rw (w.join.ensures.0, w.join.ensures.1) (both.1 w.if-one-other.false))
     ]
 
 pub returns : goal.returns

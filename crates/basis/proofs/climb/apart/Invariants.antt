@@ -1,13 +1,9 @@
 -- Before each turn the atoms below a lead to themselves, and none leads to a higher one. Assumes nothing.
-use mathlib.Core.Path.{◌≡◌, refl}
+use mathlib.Core.Path.{◌≡◌}
 use Prim.Native.Nat.{ℕ, ◌-◌, ◌≤◌, ◌<◌}
-use native.Mathlib.Omega.{arith}
-use borrow.Author.Count.{below_none}
-use borrow.Author.Rules.{rules}
-use lib.ListN.{length, get_or, length-set, get_or-replicate}
+use lib.ListN.{length, get_or}
 use Rattle.definitions.specs.Table.{max_atoms}
 use Rattle.basis.specs.Climbing.{Falling}
-use Rattle.basis.proofs.Leading.{set_falling, own_more}
 use Rattle.basis.proofs.climb.apart.Given as goal
 
 abbrev pub invariant-loop-a : goal.invariant-loop-a
@@ -15,4 +11,3 @@ invariant-loop-a l = (l.a ≤ l.atoms) × (length l.lower ≡ max_atoms) × Fall
 
 abbrev pub decreases-loop-a : goal.decreases-loop-a
 decreases-loop-a l = l.atoms - l.a
-

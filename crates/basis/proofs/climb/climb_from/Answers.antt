@@ -1,10 +1,7 @@
 -- Before each turn the climb has come to a; each step goes to a lower atom. Assumes nothing.
 use mathlib.Core.Path.{subst⁻¹}
-use Prim.Native.Nat.{◌≤◌}
 use native.Mathlib.Omega.{arith}
 use borrow.Author.Rules.{rules}
-use Rattle.sets.specs.Bond.{bits}
-use Rattle.sets.specs.Lists.{sets_in}
 use Rattle.sets.proofs.Lists.{sets-whole}
 use Rattle.sets.proofs.Machine.{no_bonds_lem}
 use Rattle.definitions.specs.Table.{max_atoms}
@@ -20,7 +17,7 @@ pub at-requires : goal.at-requires
 at-requires c = omega (arith, sets-whole max_atoms c.args.ways.now (search rules))
 
 pub loop-a-preserved : goal.loop-a-preserved
-loop-a-preserved c =    (omega (arith, c.loop-a.invariant.0), climbed-on c.loop-a.invariant.1 (omega arith) c.at.ensures c.sum-bonds.ensures)
+loop-a-preserved c = (omega (arith, c.loop-a.invariant.0), climbed-on c.loop-a.invariant.1 (omega arith) c.at.ensures c.sum-bonds.ensures)
 
 pub returns : goal.returns
-returns c =    climbed-last c.loop-a.invariant.1 c.requires.0 c.requires.1 (omega arith)
+returns c = climbed-last c.loop-a.invariant.1 c.requires.0 c.requires.1 (omega arith)

@@ -17,13 +17,13 @@ pub put_at-requires-else-a-b : goal.put_at-requires-else-a-b
 put_at-requires-else-a-b c = omega (arith, sets-whole max_atoms c.args.ways.now (search rules))
 
 pub returns-then-a-b : goal.returns-then-a-b
-returns-then-a-b c =    let given = c.args in (
-      ap₂ (λ (i x : ℕ). set given.lower.now i x) (omega arith) (omega arith),
-      c.put_at.ensures.sets ∙ ap (λ (i : ℕ). set (sets_in given.ways.now) i (bits given.bonds)) (omega arith),
-    )
+returns-then-a-b c = let given = c.args in (
+  ap₂ (λ (i x : ℕ). set given.lower.now i x) (omega arith) (omega arith),
+  c.put_at.ensures.sets ∙ ap (λ (i : ℕ). set (sets_in given.ways.now) i (bits given.bonds)) (omega arith),
+)
 
 pub returns-else-a-b : goal.returns-else-a-b
-returns-else-a-b c =    let given = c.args in (
-      ap₂ (λ (i x : ℕ). set given.lower.now i x) (omega arith) (omega arith),
-      c.put_at-else-a-b.ensures.sets ∙ ap (λ (i : ℕ). set (sets_in given.ways.now) i (bits given.bonds)) (omega arith),
-    )
+returns-else-a-b c = let given = c.args in (
+  ap₂ (λ (i x : ℕ). set given.lower.now i x) (omega arith) (omega arith),
+  c.put_at-else-a-b.ensures.sets ∙ ap (λ (i : ℕ). set (sets_in given.ways.now) i (bits given.bonds)) (omega arith),
+)

@@ -2,7 +2,6 @@
 use mathlib.Core.Path.{ap}
 use Prim.Native.Nat.{ℕ, ◌%◌}
 use Rattle.fields.proofs.Bytes.{byte_shift}
-use borrow.Author.Rules.{rules}
 use Rattle.fields.proofs.number.byte_of.Goals as goal
 
 pub returns : goal.returns

@@ -1,11 +1,8 @@
 -- Of the number's bytes, high byte first, i are stored. Assumes nothing.
 use mathlib.Core.Path.{sym, ◌∙◌}
-use Prim.Native.Nat.{◌-◌}
 use native.Mathlib.Omega.{arith}
-use Rattle.definitions.specs.Label.{bytes_of}
-use Rattle.lent.proofs.Appending.{Spelt, spelt_none, spelt_more, spelt_all, spelt_length}
+use Rattle.lent.proofs.Appending.{spelt_none, spelt_more, spelt_all, spelt_length}
 use Rattle.fields.proofs.Bytes.{length-bytes_of, byte_at}
-use borrow.Author.Rules.{rules}
 use Rattle.fields.proofs.number.put_number.Goals as goal
 
 pub loop-i-init : goal.loop-i-init
@@ -15,7 +12,7 @@ pub bounds-out-at : goal.bounds-out-at
 bounds-out-at c = omega (arith, spelt_length c.loop-i.invariant)
 
 pub loop-i-preserved : goal.loop-i-preserved
-loop-i-preserved c =    let a = c.args in
+loop-i-preserved c = let a = c.args in
     let i = c.loop-i.i in
     spelt_more c.loop-i.invariant (omega (arith, length-bytes_of a.width a.number))
     (c.byte_of.ensures ∙ sym (byte_at a.width a.number i (omega arith)))

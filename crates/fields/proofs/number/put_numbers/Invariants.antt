@@ -1,12 +1,8 @@
 -- Of the numbers' bytes, those of the first i are appended. Assumes nothing.
-use mathlib.Core.Path.{sym}
-use Prim.Native.Nat.{◌-◌, ◌≤◌}
-use native.Mathlib.Omega.{arith}
-use lib.ListN.{length, get_or}
+use Prim.Native.Nat.{◌-◌}
+use lib.ListN.{get_or}
 use Rattle.definitions.specs.Label.{bytes_of}
-use Rattle.lent.proofs.Appending.{appended_as, Strung, strung_none, strung_more, strung_all, strung_room, strung_length}
-use Rattle.fields.proofs.Bytes.{length-bytes_of, bytes_of_all-gather}
-use borrow.Author.Rules.{rules}
+use Rattle.lent.proofs.Appending.{Strung}
 use Rattle.fields.proofs.number.put_numbers.Given as goal
 
 abbrev pub invariant-loop-i : goal.invariant-loop-i
@@ -14,4 +10,3 @@ invariant-loop-i l = Strung (λ k. bytes_of l.width (get_or l.numbers k 0)) l.n 
 
 abbrev pub decreases-loop-i : goal.decreases-loop-i
 decreases-loop-i l = l.n - l.i
-

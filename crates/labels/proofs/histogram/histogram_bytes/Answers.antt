@@ -1,8 +1,6 @@
 -- Before each turn the lines of the sizes below are added up. Assumes nothing.
-use Prim.Native.Nat.{◌-◌}
 use native.Mathlib.Omega.{arith}
-use Rattle.labels.proofs.Counting.{Measured, measured_none, measured_more, measured_all}
-use borrow.Author.Rules.{rules}
+use Rattle.labels.proofs.Counting.{measured_none, measured_more, measured_all}
 use Rattle.labels.proofs.histogram.histogram_bytes.Goals as goal
 
 pub loop-size-init : goal.loop-size-init

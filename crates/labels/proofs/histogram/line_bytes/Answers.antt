@@ -3,7 +3,6 @@ use mathlib.Core.Path.{◌≡◌, sym, ap}
 use native.Mathlib.Omega.{arith}
 use lib.ListN.{length}
 use Rattle.labels.proofs.Counting.{line-none, length-line-some}
-use borrow.Author.Rules.{rules}
 use Rattle.labels.proofs.histogram.line_bytes.Goals as goal
 
 pub returns-then-count-gt0 : goal.returns-then-count-gt0

@@ -1,9 +1,6 @@
 -- Of the lines, those of the sizes below are appended. Assumes nothing.
-use Prim.Native.Nat.{◌-◌}
 use native.Mathlib.Omega.{arith}
-use lib.ListN.{get_or}
-use Rattle.labels.specs.Sizes.{line}
-use Rattle.lent.proofs.Appending.{Strung, strung_none, strung_more, strung_all, strung_room, strung_length, appended_as}
+use Rattle.lent.proofs.Appending.{strung_none, strung_more, strung_all, strung_room, strung_length, appended_as}
 use Rattle.labels.proofs.Counting.{lines_below, lines-room}
 use borrow.Author.Rules.{rules}
 use Rattle.labels.proofs.histogram.put_histogram.Goals as goal

@@ -1,11 +1,8 @@
 -- Of the lines, those of the sizes below are appended. Assumes nothing.
 use Prim.Native.Nat.{◌-◌}
-use native.Mathlib.Omega.{arith}
 use lib.ListN.{get_or}
 use Rattle.labels.specs.Sizes.{line}
-use Rattle.lent.proofs.Appending.{Strung, strung_none, strung_more, strung_all, strung_room, strung_length, appended_as}
-use Rattle.labels.proofs.Counting.{lines_below, lines-room}
-use borrow.Author.Rules.{rules}
+use Rattle.lent.proofs.Appending.{Strung}
 use Rattle.labels.proofs.histogram.put_histogram.Given as goal
 
 abbrev pub invariant-loop-size : goal.invariant-loop-size
@@ -13,4 +10,3 @@ invariant-loop-size l = Strung (λ y. line l.width y (get_or l.counts y 0)) l.to
 
 abbrev pub decreases-loop-size : goal.decreases-loop-size
 decreases-loop-size l = l.top - l.size
-

@@ -7,12 +7,12 @@ use borrow.Author.Rules.{rules}
 use Rattle.labels.proofs.histogram.put_line.Goals as goal
 
 pub returns-then-count-eq0 : goal.returns-then-count-eq0
-returns-then-count-eq0 c =    let none : c.args.count ≡ 0 = omega arith in
+returns-then-count-eq0 c = let none : c.args.count ≡ 0 = omega arith in
     appended_as (sym (line-none _ _ none)) (appended_none _ _)
 
 pub put_tagged-requires : goal.put_tagged-requires
-put_tagged-requires c =    let a = c.args in
+put_tagged-requires c = let a = c.args in
     (search rules, omega (arith, length-line-some a.width a.size (λ (e : a.count ≡ 0). omega arith)))
 
 pub returns : goal.returns
-returns c =    appended_as (sym (line-some _ _ (λ (e : c.args.count ≡ 0). omega arith))) c.put_tagged.ensures
+returns c = appended_as (sym (line-some _ _ (λ (e : c.args.count ≡ 0). omega arith))) c.put_tagged.ensures

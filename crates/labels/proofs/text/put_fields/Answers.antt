@@ -7,7 +7,6 @@ use Rattle.definitions.specs.Label.{bytes_of_all, field, frerejacque_tag, rings_
 use Rattle.labels.specs.Sizes.{lines}
 use Rattle.labels.specs.Text.{label_bytes}
 use Rattle.lent.proofs.Appending.{Begun, begun_none, begun_room, begun_more}
-use borrow.Author.Rules.{rules}
 use Rattle.labels.proofs.text.put_fields.Goals as goal
 use Rattle.labels.proofs.text.put_fields.Goals.{Start, After-put_number_field-after_first, After-put_size_field-after_rings, After-put_size_field-after_smallest}
 

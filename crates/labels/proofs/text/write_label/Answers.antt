@@ -7,7 +7,6 @@ use lib.ListN.{length, take}
 use Rattle.answers.proofs.Answers.{is_short, is_full}
 use Rattle.labels.specs.Text.{label_bytes}
 use Rattle.labels.proofs.Lengths.{label_bytes_lem}
-use borrow.Author.Rules.{rules}
 use Rattle.labels.proofs.text.write_label.Goals as goal
 use Rattle.labels.proofs.text.write_label.Goals.{Start, After-histogram_bytes-smallest_bytes}
 

@@ -17,7 +17,6 @@ inside : (c : After-next) → c.next.result < room
 inside c =
     single_inside c.requires.0 (ring-lt c.args.members (search rules)) c.next.ensures
 
-
 pub at-requires : goal.at-requires
 at-requires c = omega (arith, inside (goal.at.at-requires c).After-next, sets-whole max_bonds c.args.rings.now (search rules))
 
@@ -28,6 +27,6 @@ pub overflow_add-smallest : goal.overflow_add-smallest
 overflow_add-smallest c = omega (arith, c.requires.2.fits c.size-size.result)
 
 pub returns : goal.returns
-returns c =    let (single, all, smallest) = c.requires in
+returns c = let (single, all, smallest) = c.requires in
     both_single single (ring-lt c.args.members (search rules)) c.next.ensures all smallest
     (c.size-size.ensures.0 ∙ ap size c.at.ensures) (omega (arith, c.size-size.ensures.1))

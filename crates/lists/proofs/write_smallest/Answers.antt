@@ -1,0 +1,17 @@
+-- What is chosen from the rings in order is taken of them. Assumes nothing.
+use mathlib.Core.Path.{ap}
+use lib.ListN.{length}
+use Rattle.sets.proofs.Lists.{sets-blank}
+use Rattle.definitions.specs.Table.{max_bonds}
+use Rattle.lists.proofs.Laws.{listable_held, ordered_choosable, ordered-chosen}
+use Rattle.lists.proofs.write_smallest.Goals as goal
+
+pub list_rings-all-requires : goal.list_rings-all-requires
+list_rings-all-requires c = let given = c.requires in (listable_held _ given.2, listable_held _ given.3)
+
+pub smallest_of-chosen-requires : goal.smallest_of-chosen-requires
+smallest_of-chosen-requires c = let given = c.requires in
+    ordered_choosable c.list_rings-all.ensures given.0 given.1 (ap length (sets-blank max_bonds))
+
+pub returns : goal.returns
+returns c = rw (ordered-chosen c.list_rings-all.ensures c.smallest_of-chosen.ensures) at c.write_sets.ensures
