@@ -8,12 +8,12 @@ use lib.Dec.{eqb}
 use lib.ListN.{length, take, drop, length-append, length-drop}
 use lib.Seq.{take_all, take_at, drop-drop, length-take-le}
 use borrow.Author.Tests.{eqb-true, eqb-false, lt-ltb, le-ltb}
-use Rattle.io.specs.Counts.{IsPrefixLen}
 use Rattle.definitions.specs.Records.{record_table, record_bytes, whole?}
 use Rattle.definitions.specs.Ringline.{record_line, max_input, long_line, first_line, ringline}
 use Rattle.definitions.proofs.Tests.{by}
 use Rattle.lent.specs.Appended.{Appended}
 use Rattle.lent.proofs.Appending.{appended_none, appended_more, appended_as, appended_length}
+use Rattle.ringline.specs.Counts.{IsPrefixLen}
 use Rattle.ringline.specs.Line.{last_line}
 use Rattle.ringline.proofs.Writing.{last_ended, last_broken}
 use Rattle.records.proofs.Records.{whole-fits}

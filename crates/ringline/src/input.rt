@@ -1,8 +1,7 @@
 // Standard input, read to its end or as far as there is room.
-ghost use Rattle.io.specs.Counts.{IsPrefixLen};
+ghost use Rattle.ringline.specs.Counts.{IsPrefixLen};
 
-// The file descriptor of standard input.
-const STANDARD_INPUT: i32 = 0;
+use std::io::Read;
 
 // How many bytes were read, and whether a read failed.
 #[derive(Clone, Copy)]
@@ -12,20 +11,26 @@ pub(crate) struct Input {
 }
 
 // Reads until the list is full, the input ends or a read fails.
-pub(crate) fn read_input(bytes: &mut [u8]) -> Input
+pub(crate) fn read_input(input: &mut impl Read, bytes: &mut [u8]) -> Input
     ensures { IsPrefixLen result.count bytes.new }
 {
     let mut done: usize = 0;
     while done < bytes.len() {
-        let got = libc::read(STANDARD_INPUT, &mut bytes[done..]);
-        let more = io::count(got, &bytes[done..]);
-        if more == 0 {
-            return Input {
-                count: done,
-                failed: got < 0,
-            };
+        match input.read(&mut bytes[done..]) {
+            Ok(0) => {
+                return Input {
+                    count: done,
+                    failed: false,
+                };
+            }
+            Ok(more) => done += more,
+            Err(_) => {
+                return Input {
+                    count: done,
+                    failed: true,
+                };
+            }
         }
-        done += more;
     }
     Input {
         count: done,

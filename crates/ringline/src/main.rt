@@ -12,14 +12,14 @@ use render::{MAX_INPUT, render};
 const MAX_OUTPUT: usize = 7 * MAX_INPUT + 24;
 
 // Where a read fails nothing is printed.
-fn main() {
+fn main(rt: HostRuntime) {
     let mut bytes = [0u8; MAX_INPUT + 1];
-    let input = read_input(&mut bytes);
+    let input = read_input(&mut rt.stdin(), &mut bytes);
     if input.failed {
         return;
     }
     let n = input.count;
     let mut out = [0u8; MAX_OUTPUT];
     let m = render(&bytes[..n], &mut out);
-    io::write_all(1, &out[..m]);
+    let _ = rt.write_all(&out[..m]);
 }

@@ -1,9 +1,9 @@
 // From the bytes of standard input to the bytes that the program prints.
 ghost use Rattle.std.specs.Prelude.{◌≡◌, true, ◌+◌, ◌*◌, ◌^◌, ◌≤◌, ◌<◌, length, take};
-ghost use Rattle.io.specs.Counts.{IsPrefixLen};
 ghost use Rattle.definitions.specs.Ringline as text;
 ghost use Rattle.definitions.specs.Records.{whole?, record_bytes, record_table};
 ghost use Rattle.lent.specs.Appended.{Appended};
+ghost use Rattle.ringline.specs.Counts.{IsPrefixLen};
 ghost use Rattle.ringline.specs.Line.{last_line, label_room};
 
 use crate::line::{put_answer, put_end, put_frame};

@@ -21,5 +21,6 @@ pub shape_of-out : goal.shape_of-out
 shape_of-out c = strung_length c.loop-i.invariant
 
 pub returns : goal.returns
-returns c = let a = c.args in
+returns c =
+    let a = c.args in
     appended_as (sym (hex-gather a.bytes.now a.n (omega arith))) (strung_all c.loop-i.invariant (omega arith))
