@@ -27,13 +27,15 @@ outcome-other k zero true n new lent z r = (λ e. absurd (z (sym e)), λ e. absu
 outcome-other k zero false n new lent z r = (λ e. absurd (r (sym e)), λ e. absurd (z (sym e)))
 outcome-other k (suc c) room n new lent z r = (λ e. e, λ e. e)
 
-module _ (s : ℕ) (c d : Call) (h : CalledBoth walk.Post s c d) where
-  -- the number is that of the outcome, for both lists
-  number : c.number ≡ (written_both (refusal_of_walk (table_in c) s) (walk_atoms (table_in c) s, walk_bonds (table_in c) s) (c.lent, d.lent)).number
-  number = elim h [ called_both p ↦ ap (λ (o : Outcome (List ℕ × List ℕ)). o.number) p.0 ]
+-- the number is that of the outcome, for both lists
+numbers : (s : ℕ) (c d : Call) → CalledBoth walk.Post s c d
+    → (c.number ≡ (written_both (refusal_of_walk (table_in c) s) (walk_atoms (table_in c) s, walk_bonds (table_in c) s) (c.lent, d.lent)).number)
+    × (d.number ≡ c.number)
+numbers s c d (called_both p) = (ap (λ (o : Outcome (List ℕ × List ℕ)). o.number) p.0, refl)
 
-  same_number : d.number ≡ c.number
-  same_number = elim h [ called_both p ↦ refl ]
+module _ (s : ℕ) (c d : Call) (h : CalledBoth walk.Post s c d) where
+  number : c.number ≡ (written_both (refusal_of_walk (table_in c) s) (walk_atoms (table_in c) s, walk_bonds (table_in c) s) (c.lent, d.lent)).number
+  number = (numbers s c d h).0
 
   -- without a refusal the table is accepted and the set is a ring
   number-ring : c.number ≡ 0 → (refusal (table_in c) ≡ 0) × Ring (table_in c) s
@@ -59,7 +61,7 @@ module _ (s : ℕ) (c d : Call) (h : CalledBoth walk.Post s c d) where
         walk = λ z. let (y, r) = number-ring z in
             subst₂ (OneWalk M s)
             (sym (bytes-given c z (walk_atoms M s) (sym (atoms-length M s)) atoms))
-            (sym (bytes-given d (same_number ∙ z) (walk_bonds M s) (sym (bonds-length M s)) bonds))
+            (sym (bytes-given d ((numbers s c d h).1 ∙ z) (walk_bonds M s) (sym (bonds-length M s)) bonds))
             (each-ring-one-walk M y s r);
         no_ring = number_no_ring;
       }

@@ -2,7 +2,7 @@
 -- Assumes nothing.
 use Rattle.std.specs.Prelude.{List, [], ℕ, take}
 use base.Fml.{Lft}
-use Rattle.std.specs.Borrow.{Bor}
+use Rattle.std.specs.Borrow.{Bor, MutBor}
 use Rattle.sets.specs.Lists.{sets_in, words_of}
 use Rattle.definitions.specs.Table.{Table, table}
 use Rattle.definitions.specs.Answer.{Outcome, outcome_of}
@@ -53,10 +53,10 @@ abbrev pub OneList : Type 0
 OneList = ℕ × (Bor (List ℕ) × Unit {0})
 
 abbrev pub TwoLists : Type 0
-TwoLists = ℕ × (Bor (List ℕ) × (Bor (List ℕ) × Unit {0}))
+TwoLists = ℕ × (Bor (List ℕ) × (MutBor (List ℕ) × Unit {0}))
 
 abbrev pub SetAndLists : Type 0
-SetAndLists = ℕ × (Bor (List ℕ) × (ℕ × (Bor (List ℕ) × (Bor (List ℕ) × Unit {0}))))
+SetAndLists = ℕ × (Bor (List ℕ) × (ℕ × (MutBor (List ℕ) × (MutBor (List ℕ) × Unit {0}))))
 
 -- a postcondition of such functions: it speaks of lifetimes, the arguments, the answer, and the arguments at exit
 abbrev pub Checking : Type 1
@@ -75,13 +75,13 @@ pub data Checked (post : Checking) : Call → Type 0 where
       → Checked post (call_of atoms bonds.now [] r bonds'.now [])
 
 pub data Called (post : Writing) : Call → Type 0 where
-  called : {κs : Lft × (Lft × Unit {0})} {atoms atoms' : ℕ} {bonds lent bonds' left : Bor (List ℕ)} {r : Answer}
+  called : {κs : Lft × (Lft × Unit {0})} {atoms atoms' : ℕ} {bonds bonds' : Bor (List ℕ)} {lent left : MutBor (List ℕ)} {r : Answer}
       → post κs (atoms, (bonds, (lent, tt))) r (atoms', (bonds', (left, tt)))
       → Called post (call_of atoms bonds.now lent.now r bonds'.now left.now)
 
 -- one call with a set and two lists, seen as a call for the first list and as a call for the second
 pub data CalledBoth (post : Walking) (s : ℕ) : Call → Call → Type 0 where
-  called_both : {κs : Lft × (Lft × (Lft × Unit {0}))} {atoms atoms' s' : ℕ} {bonds bonds' visited visited' crossed crossed' : Bor (List ℕ)} {r : Answer}
+  called_both : {κs : Lft × (Lft × (Lft × Unit {0}))} {atoms atoms' s' : ℕ} {bonds bonds' : Bor (List ℕ)} {visited visited' crossed crossed' : MutBor (List ℕ)} {r : Answer}
       → post κs (atoms, (bonds, (s, (visited, (crossed, tt))))) r (atoms', (bonds', (s', (visited', (crossed', tt)))))
       → CalledBoth post s (call_of atoms bonds.now visited.now r bonds'.now visited'.now)
       (call_of atoms bonds.now crossed.now r bonds'.now crossed'.now)
