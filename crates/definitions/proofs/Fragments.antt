@@ -22,7 +22,7 @@ use Rattle.definitions.proofs.Tests.{by, same_test}
 use Rattle.definitions.proofs.Lists.{NoRepeats, fresh_length, fresh_map, count_skip, count-take, count_all, count_ext, count_differ, length-listed, those_in, those_fresh}
 use Rattle.definitions.proofs.Refusals.{Valid}
 use Rattle.definitions.proofs.Classes.{Least, merged, merged_max, merged_other, merged_same, label_none, classes-least}
-use Rattle.definitions.proofs.Paths.{way_more, below, ends-within, fragments_more, fragments-way}
+use Rattle.definitions.proofs.Paths.{way_more, ends-within, fragments_more, fragments-way}
 
 -- ---- one atom of each fragment
 

@@ -16,7 +16,6 @@ use lib.Dec.{eqb, ltb}
 use lib.ListN.{length, get_or}
 use Rattle.sets.specs.Bits.{has, with}
 use Rattle.sets.proofs.Laws.{ext, has-with, has-zero}
-use Rattle.definitions.specs.Search.{those}
 use Rattle.definitions.specs.Table.{Table, bonds, tail, head, refusal, max_bonds}
 use Rattle.definitions.specs.Basis.{Joins, Path, Closure, ends_below, fragments, closure?, forest, basis_ring, basis_rings}
 use Rattle.definitions.specs.Basis.Joins.{along, back}

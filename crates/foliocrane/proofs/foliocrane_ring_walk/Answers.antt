@@ -1,7 +1,6 @@
 -- The set of the word that is given is walked round. Assumes nothing.
 use mathlib.Core.Path.{◌∙◌}
 use Rattle.sets.proofs.OneWord.{single}
-use borrow.Author.Rules.{rules}
 use Rattle.foliocrane.proofs.foliocrane_ring_walk.Goals as goal
 
 pub returns : goal.returns
