@@ -24,13 +24,15 @@ unchanged() {
 }
 
 # prove FOLDER LOG WORD..: runs rt with the words in a crate's folder. Each crate of which something is proved anew is named on standard
-# error as it is proved, and where rt fails all else that it says stands there too, but for what is in order. LOG is a file that has all.
+# error as it is proved, as is what rt waits for, and where rt fails all else that it says stands there too, but for what is in order. LOG is
+# a file that has all.
 prove() {
     local folder=$1 log=$2
     shift 2
     if ! (cd "$folder" && rt "$@" 2>&1 </dev/null) | tee "$log" | sed -un \
         -e '/^crate [a-z0-9_]*: /{s/.* checked=0$//;s/^crate \([a-z0-9_]*\): .*/\1/;h;}' \
-        -e '/^logic=proved /{x;s/..*/    & proved/p;s/.*//;x;}' >&2; then
+        -e '/^logic=proved /{x;s/..*/    & proved/p;s/.*//;x;}' \
+        -e 's/^rt: \(.*waiting for .*\)$/    \1/p' >&2; then
         grep -vE '^(checked|statements|library|axioms|logic|crate) |: proved$|^logic=proved ' "$log" >&2 || true
         return 1
     fi

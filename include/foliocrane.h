@@ -1,4 +1,4 @@
-/* Foliocrane for C: what each function promises is its contract in crates/foliocrane/src/lib.rt; docs/REFERENCE.md says it with examples.
+/* Foliocrane for C: what each function promises is its contract in crates/foliocrane_c/src/lib.rt; docs/REFERENCE.md says it with examples.
 
    A table is an atom count and two bytes for each bond, the numbers of its two atoms, counted from 0. Every table is answered.
    A list is lent as a pointer and a length in items; nothing past what is counted is touched, and nothing at all where the call is refused.
@@ -47,38 +47,38 @@ enum {
     FOLIOCRANE_ROOM = 8     /* the answer has more items than a lent list */
 };
 
-/* Is the table accepted, and how many basis rings has it? Stack: 3,176 bytes. */
+/* Is the table accepted, and how many basis rings has it? Stack: 3,704 bytes. */
 foliocrane_answer foliocrane_check(uint64_t atoms, const uint8_t *bonds, size_t bonds_len);
 
-/* The basis rings, in order of their closure bonds. At most 64 words. Stack: 3,720 bytes. */
+/* The basis rings, in order of their closure bonds. At most 64 words. Stack: 4,248 bytes. */
 foliocrane_answer foliocrane_basis_rings(uint64_t atoms, const uint8_t *bonds, size_t bonds_len, uint64_t *out, size_t out_len);
 
-/* The assembly of each basis ring. At most 64 bytes. Stack: 4,264 bytes. */
+/* The assembly of each basis ring. At most 64 bytes. Stack: 4,760 bytes. */
 foliocrane_answer foliocrane_assemblies(uint64_t atoms, const uint8_t *bonds, size_t bonds_len, uint8_t *out, size_t out_len);
 
-/* All rings, the smaller first, and of one size the lower word. At most 6,547 words. Stack: 6,968 bytes with few sums, at most
-   111,480. */
+/* All rings, the smaller first, and of one size the lower word. At most 6,547 words. Stack: 7,064 bytes with few sums, at most
+   112,424. */
 foliocrane_answer foliocrane_all_rings(uint64_t atoms, const uint8_t *bonds, size_t bonds_len, uint64_t *out, size_t out_len);
 
-/* The smallest basis, as taken from all rings in their order. At most 64 words. Stack: 7,144 bytes with few sums, at most
-   112,552. */
+/* The smallest basis, as taken from all rings in their order. At most 64 words. Stack: 8,120 bytes with few sums, at most
+   113,480. */
 foliocrane_answer foliocrane_smallest_basis(uint64_t atoms, const uint8_t *bonds, size_t bonds_len, uint64_t *out, size_t out_len);
 
 /* The reduced basis of 1975: it depends on the numbering, and may have sets that are no rings. At most 64 words. Stack:
-   6,456 bytes. */
+   6,968 bytes. */
 foliocrane_answer foliocrane_reduced_basis(uint64_t atoms, const uint8_t *bonds, size_t bonds_len, uint64_t *out, size_t out_len);
 
 /* The label: it depends on the molecule and not on the numbering. Its field 01 is bonds - atoms + fragments, an atom without bonds being a
    fragment too: the number of basis rings. Earlier versions wrote bonds - atoms + 1 there, or 0 where that is negative, so that their labels
-   differ in it for tables of several fragments that have a ring. At most 512 bytes. Stack: 9,064 bytes with few sums, at most 24,536. */
+   differ in it for tables of several fragments that have a ring. At most 512 bytes. Stack: 9,016 bytes with few sums, at most 25,560. */
 foliocrane_answer foliocrane_label(uint64_t atoms, const uint8_t *bonds, size_t bonds_len, uint8_t *out, size_t out_len);
 
-/* The sidecar: the reduced basis in a field of its own. At most 515 bytes. Stack: 5,928 bytes. */
+/* The sidecar: the reduced basis in a field of its own. At most 515 bytes. Stack: 6,456 bytes. */
 foliocrane_answer foliocrane_sidecar(uint64_t atoms, const uint8_t *bonds, size_t bonds_len, uint8_t *out, size_t out_len);
 
 /* The ring that is a set of bonds, in walking order: from the lower atom of its lowest bond over that bond, and from each atom by the other
    bond of the set, until back at the start. The atom at a place is left by the bond at that place, and the last bond leads back to the
-   first atom. Both lists are written or neither. At most 64 bytes in each. Stack: 1,376 bytes round a ring of six, at most 6,944. */
+   first atom. Both lists are written or neither. At most 64 bytes in each. Stack: 1,416 bytes round a ring of six, at most 7,912. */
 foliocrane_answer foliocrane_ring_walk(uint64_t atoms, const uint8_t *bonds, size_t bonds_len, uint64_t set, uint8_t *ring_atoms,
                                        size_t ring_atoms_len, uint8_t *ring_bonds, size_t ring_bonds_len);
 
