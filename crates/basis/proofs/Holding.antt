@@ -21,7 +21,7 @@ use Rattle.definitions.specs.Basis.{basis_rings}
 use Rattle.definitions.specs.Assembly.{assemblies, assembly_count, rings_in}
 use Rattle.definitions.specs.Answer.{outcome_of, counted}
 use Rattle.definitions.proofs.Tests.{by, clashes, and_both}
-use Rattle.definitions.proofs.Lists.{has-set_of, size-set_of, listed_ext, gather_ext, get_d_map, get_or-same}
+use Rattle.definitions.proofs.Lists.{has-set_of, size-set_of, listed_ext, gather_ext, get_or-map, get_or-same}
 use Rattle.definitions.proofs.Passing.{listed_gap}
 use Rattle.definitions.proofs.Linking.{number, length-assemblies, length-rings_in}
 use Rattle.answers.proofs.Answers.{check_refused, check_counted}
@@ -95,7 +95,7 @@ basis-same {M} {b} {c} h k =
 
 -- the set of assembly a is the one at place a
 pub members-at : (sets : List RingSet) (a : ℕ) → get_or (map bits sets) a 0 ≡ bits (get_or sets a no_rings)
-members-at sets a = get_d_map bits sets a no_rings 0 no_rings_lem
+members-at sets a = get_or-map bits sets a no_rings 0 no_rings_lem
 
 module _ {rs : List ℕ} {s : Assemblies} (h : AssembliesOf rs s) where
   -- the set of assembly a has the rings whose assembly is a

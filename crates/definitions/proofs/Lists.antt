@@ -560,7 +560,7 @@ get_or-same n i x =
     (λ t. get_or-eq_default (replicate n x) x (omega (arith, length-replicate n x, ltb-false i n t)))
 
 -- what stands at a place of a list that is read through f
-pub get_d_map : {A B : Type 0} (f : A → B) (l : List A) (i : ℕ) (d : A) (e : B) → f d ≡ e → get_or (map f l) i e ≡ f (get_or l i d)
-get_d_map f [] i d e h = sym h
-get_d_map f (x ∷ l) zero d e h = refl
-get_d_map f (x ∷ l) (suc i) d e h = get_d_map f l i d e h
+pub get_or-map : {A B : Type 0} (f : A → B) (l : List A) (i : ℕ) (d : A) (e : B) → f d ≡ e → get_or (map f l) i e ≡ f (get_or l i d)
+get_or-map f [] i d e h = sym h
+get_or-map f (x ∷ l) zero d e h = refl
+get_or-map f (x ∷ l) (suc i) d e h = get_or-map f l i d e h

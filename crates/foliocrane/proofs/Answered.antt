@@ -1,4 +1,4 @@
--- Demand 1: every exported function asks for nothing and answers every call as `Answered` says, by its own postcondition. Assumes nothing.
+-- Demand 1: every function of the face asks for nothing and answers every call as `Answered` says, by its own postcondition. Assumes nothing.
 use mathlib.Core.Path.{◌≡◌, refl, sym, ap, ap₂, subst, ◌∙◌}
 use mathlib.Core.Logic.{◌≢◌, ◌⊎◌}
 use mathlib.Core.Bool.{Bool, true, false, ◌&&◌}
@@ -171,7 +171,7 @@ module _ (s : ℕ) (c d : Call) where
           (outcome (refusal_of_walk (table_in c) s) room (length visited) given lent).number
       told given lent = walk-room-told room (tells_rooms visited crossed c.lent d.lent) (length visited) given lent (table_in c) s
 
--- ---- the exported functions, each by its own postcondition
+-- ---- the functions of the face, each by its own postcondition
 
 -- the table check: nothing is lent, so 8 is never given
 pub check_answers : (c : Call) → Checked check.Post c → Answered (wrongs (table_in c)) (length (basis_rings (table_in c))) [] c

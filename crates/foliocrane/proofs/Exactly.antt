@@ -50,11 +50,11 @@ answers_are_exact M e =
       assemblies-length = length-assemblies (basis_rings M);
       assemblies = linked_test (basis_rings M);
       assemblies_order = λ i n l h. let (j, a, e) = number_lower (basis_rings M) i n l h in (j, omega arith, e);
-      all_rings_lem = all_rings_are M;
+      all_rings = all_rings_are M;
       all_rings_order = all_rings_sorted M;
       smallest_rings = smallest_basis_reads M;
       smallest_order = smallest_basis_sorted M;
-      smallest_basis_lem = smallest_basis_theorem M;
+      smallest_basis = smallest_basis_theorem M;
     }
 
 -- ---- nothing else
@@ -75,7 +75,7 @@ unfolding assemblies
 exactly_those {M} {bs} {ns} {rs} {ss} e x = (
   the_basis,
   assemblies_unique (subst (λ l. Numbering l ns) the_basis (numbered x)),
-  all_rings_unique M rs x.all_rings_order x.all_rings_lem,
+  all_rings_unique M rs x.all_rings_order x.all_rings,
   smallest_basis_unique M ss x.smallest_order x.smallest_rings,
 )
   where

@@ -1,4 +1,4 @@
--- The demands as theorems over the exported functions' own postconditions.
+-- The demands as theorems over the own postconditions of the face's functions.
 --     Answered     demand 1
 --     Exactly      demand 2, over the definitions
 --     Tied         demand 2, over calls

@@ -47,7 +47,7 @@ module _ (c : Call) (accepted : c.number ≡ 0) where
   sets-given sets a w =
       ap sets_in (ap (λ (n : ℕ). take n c.left) (ap words_of (a.given accepted).0 ∙ sym w.counted) ∙ (a.given accepted).1) ∙ w.read_back
 
--- ---- the exported functions, each by its own postcondition
+-- ---- the functions of the face, each by its own postcondition
 
 pub basis-rings_exact : (c : Call) → Called basis.Post c → c.number ≡ 0
     → let M = table_in c in Exactly M (sets_given c) (assemblies M) (all_rings M) (smallest_basis M)

@@ -1,4 +1,4 @@
--- A call of an exported function, as its caller sees it: what is given, what comes back, and what the lists hold when it has ended.
+-- A call of a function of the face, as its caller sees it: what is given, what comes back, and what the lists hold when it has ended.
 -- Assumes nothing.
 use Rattle.std.specs.Prelude.{List, [], ℕ, take}
 use base.Fml.{Lft}

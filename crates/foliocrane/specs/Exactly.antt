@@ -26,13 +26,13 @@ pub record Exactly (M : Table) (basis together rings smallest : List ℕ) : Type
   -- the numbers are given from 0 on by first basis rings: each number below that of a basis ring is that of an earlier one
   pub assemblies_order : (i n : ℕ) → i < length basis → n < get_or together i 0 → (j : ℕ) × (j < i) × (get_or together j 0 ≡ n)
   -- each ring once, nothing else, in order
-  pub all_rings_lem : (s : ℕ) → In s rings ↔ Ring M s
+  pub all_rings : (s : ℕ) → In s rings ↔ Ring M s
   pub all_rings_order : Sorted before rings
   -- each ring that is no sum of listed ones before it, once, nothing else, in order
   pub smallest_rings : (s : ℕ) → In s smallest ↔ (Ring M s × (¬ SumOf (keep (λ t. before t s) smallest) s))
   pub smallest_order : Sorted before smallest
   -- none is a sum of others, every ring is a sum of them, and no such list has fewer bonds in total
-  pub smallest_basis_lem : SmallestBasis M smallest
+  pub smallest_basis : SmallestBasis M smallest
 
 -- what is written of such a list as words are its sets, each whole: as many as are counted, and none is cut short
 pub record Whole (sets : List ℕ) : Type 0 where

@@ -1,5 +1,5 @@
 -- What is promised: what a call is, and the three demands upon it.
---     Call         a call of an exported function
+--     Call         a call of a function of the face
 --     Answered     demand 1
 --     Exactly      demand 2
 --     WalksRound   demand 2 for the walk round a ring

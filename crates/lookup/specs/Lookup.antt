@@ -23,7 +23,7 @@ pub record Lent : Type 0 where
   pub place : ℕ × ℕ
   pub words : List ℕ
 
--- what a reference lends. Its ghost name is left out: a proof's device, which no machine value holds
+-- what a reference lends: where it points and what it finds there, which is all that it is
 abbrev pub lent : Bor (List ℕ) → Lent
 lent r = record { place = r.ref_ptr; words = r.now }
 
