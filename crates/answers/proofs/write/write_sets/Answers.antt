@@ -47,6 +47,6 @@ returns c =
     let first = ap (λ (k : ℕ). take k (sets_in sets)) c.sets_up_to-wanted.ensures ∙ take_min c.args.count (sets_in sets) in
     let spelt = ap (λ (m : ℕ). take m sets) (sym (words_are n)) ∙ sym (in_words-take n sets (λ i. omega (arith, c.type_inv.sets i)) (omega (arith, c.sets_up_to-wanted.ensures))) ∙ ap in_words first in
     let long : n * 1 ≡ length (in_words (take c.args.count (sets_in sets))) =
-        sym (words_are n) ∙ ap words_of (counted (goal.at.returns c).After-sets_up_to-wanted) ∙ sym (in_words-length _) in
+    sym (words_are n) ∙ ap words_of (counted (goal.at.returns c).After-sets_up_to-wanted) ∙ sym (in_words-length _) in
     sets_full _ _ refl (counted (goal.at.returns c).After-sets_up_to-wanted) (omega (arith, words_are n, room (goal.at.returns c).Else-sets_in-wanted))
     (ap₂ (λ (words : List ℕ) (m : ℕ). words ++ drop m c.args.out.now) (c.copy_from_slice.ensures.after ∙ spelt) long)
