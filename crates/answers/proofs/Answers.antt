@@ -13,7 +13,9 @@ use native.Mathlib.Omega.{arith}
 use lib.ListN.{length}
 use lib.Dec.{lit<}
 use borrow.Author.Tests.{le-leb, lt-leb}
-use Rattle.std.proofs.Common.{Ok, Err}
+use Rattle.std.proofs.Common.{Result, Ok, Err}
+use Rattle.std.specs.Result.{IsErrAnd}
+use Rattle.std.proofs.lemmas.Result.{err_from_is_err_and}
 use Rattle.sets.specs.Lists.{in_words, words_of}
 use Rattle.sets.proofs.Lists.{in_words-length}
 use Rattle.definitions.specs.Answer.{Outcome, outcome, over, written, written_sets, counted}
@@ -32,6 +34,10 @@ number-some Twice = lit< tt
 number-some Tangled = lit< tt
 number-some Room = lit< tt
 number-some NotRing = lit< tt
+
+-- a refusal that is passed on is told
+pub passed : {A : Type 0} (r : Result ℕ Refusal) (e : Refusal) (left : A) → IsErrAnd r (λ d. d ≡ e) → told r left ≡ told (Err e) left
+passed r e left same = let p = err_from_is_err_and r same in ap (λ (t : Result ℕ Refusal). told t left) (p.1 ∙ ap (λ (d : Refusal). Err d) p.2)
 
 -- a number above 0 comes after one
 above_zero : (c : ℕ) → 0 < c → (d : ℕ) × (c ≡ suc d)

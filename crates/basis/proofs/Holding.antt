@@ -1,30 +1,30 @@
 -- What is known of the rings of a Basis and of their assemblies, and of the sets of Assemblies. Assumes nothing.
-use mathlib.Core.Path.{◌≡◌, refl, sym, ap, ◌∙◌}
+use mathlib.Core.Path.{◌≡◌, sym, ap, ◌∙◌}
 use mathlib.Core.Bool.{Bool, true, ◌&&◌}
-use mathlib.Core.List.{List, [], map}
-use Prim.Native.Nat.{ℕ, ◌*◌, ◌≤◌, ◌<◌}
+use mathlib.Core.List.{List, map}
+use Prim.Native.Nat.{ℕ, ◌<◌}
 use native.Mathlib.Omega.{arith}
-use borrow.Author.Tests.{lt-ltb, le-ltb, ltb-true, ltb-false, eqb-true, eqb-false}
+use borrow.Author.Tests.{lt-ltb, le-ltb, ltb-true, ltb-false}
 use lib.Dec.{eqb, ltb}
-use lib.ListN.{length, get_or, replicate}
+use lib.ListN.{length, get_or}
 use lib.Seq.{get_or-take}
 use Rattle.sets.specs.Bits.{has, size}
 use Rattle.sets.specs.Ring.{bits, no_rings, room}
 use Rattle.sets.specs.declared.ring.RingSet.{RingSet}
-use Rattle.sets.specs.Lists.{sets_in, words}
-use Rattle.sets.proofs.Lists.{sets-blank}
+use Rattle.sets.specs.Lists.{sets_in}
 use Rattle.sets.proofs.Machine.{no_rings_lem}
 use Rattle.sets.proofs.Laws.{has-zero}
 use Rattle.definitions.specs.Search.{picked, gather}
-use Rattle.definitions.specs.Table.{Table, refusal, max_bonds}
+use Rattle.definitions.specs.Table.{Table}
 use Rattle.definitions.specs.Basis.{basis_rings}
 use Rattle.definitions.specs.Assembly.{assemblies, assembly_count, rings_in}
-use Rattle.definitions.specs.Answer.{outcome_of, counted}
 use Rattle.definitions.proofs.Tests.{by, clashes, and_both}
-use Rattle.definitions.proofs.Lists.{has-set_of, size-set_of, listed_ext, gather_ext, get_or-map, get_or-same}
+use Rattle.definitions.proofs.Lists.{has-set_of, size-set_of, listed_ext, gather_ext, get_or-map}
 use Rattle.definitions.proofs.Passing.{listed_gap}
 use Rattle.definitions.proofs.Linking.{number, length-assemblies, length-rings_in}
-use Rattle.answers.proofs.Answers.{check_refused, check_counted}
+use Rattle.std.proofs.Common.{Result, Ok, Err, IfOk}
+use Rattle.answers.specs.Told.{code_of}
+use Rattle.answers.specs.declared.refusal.Refusal.{Refusal}
 use Rattle.basis.specs.Held.{rings_of, Holds, BasisOf, members_of, AssembliesOf}
 use Rattle.basis.specs.declared.basis.Basis.{Basis}
 use Rattle.basis.specs.declared.assembly.Assemblies.{Assemblies}
@@ -45,32 +45,6 @@ module _ {M : Table} {b : Basis} (h : Holds M b) where
   unfolding assemblies
   assemblies-counted = h.count ∙ sym (length-assemblies (basis_rings M))
 
--- of a refused table there is nothing
-pub basis-refused : {M : Table} {number : ℕ} → number ≡ refusal M → 0 < number → BasisOf M (record { number = number; rings = replicate (max_bonds * words) 0; count = 0 })
-basis-refused given h = record {
-  number = given;
-  refused = λ n. (refl, λ i. ap (λ (l : List ℕ). get_or l i 0) (sets-blank max_bonds) ∙ get_or-same max_bonds i 0);
-  accepted = λ z. absurd (omega arith);
-}
-
--- of an accepted one the basis rings are held
-pub basis-accepted : {M : Table} {b : Basis} → b.number ≡ refusal M → b.number ≤ 0 → Holds M b → BasisOf M b
-basis-accepted given h held = record { number = given; refused = λ n. absurd (n (omega arith)); accepted = λ z. held }
-
-module _ {M : Table} {b : Basis} (h : BasisOf M b) where
-  -- no refusal is given: the basis rings are held
-  pub basis_held : b.number ≤ 0 → Holds M b
-  basis_held z = h.accepted (omega (arith, h.number))
-
-  -- the number and the count are those of the table check
-  pub basis-told : outcome_of b.number b.count [] ≡ counted (refusal M) (length (basis_rings M))
-  basis-told =
-      by (eqb (refusal M) 0)
-      (λ t. let e : b.number ≡ 0 = h.number ∙ eqb-true (refusal M) 0 t in
-      ap (λ (n : ℕ). outcome_of n b.count []) e ∙ check_counted _ h.number (omega arith) (basis_held (omega arith)).count)
-      (λ t. let n = eqb-false (refusal M) 0 t in
-      ap (λ (k : ℕ). outcome_of b.number k []) (h.refused n).0 ∙ check_refused _ h.number (omega (arith, h.number)))
-
 -- two hold the same: as many rings, and the same sets at every place
 abbrev pub SameRings : Basis → Basis → Type 0
 SameRings b c = (b.count ≡ c.count) × ((i : ℕ) → get_or (sets_in b.rings) i 0 ≡ get_or (sets_in c.rings) i 0)
@@ -84,12 +58,12 @@ holds_same {b = b} {c} p q =
           (λ t. let l = ltb-false i b.count t in p.blank i l ∙ sym (q.blank i (omega arith))),
     )
 
--- two of one table have the same number and hold the same
-pub basis-same : {M : Table} {b c : Basis} → BasisOf M b → BasisOf M c → (b.number ≡ c.number) × SameRings b c
-basis-same {M} {b} {c} h k =
-    let same : SameRings b c = by (eqb (refusal M) 0) (λ t. let z = eqb-true (refusal M) 0 t in holds_same (h.accepted z) (k.accepted z))
-    (λ t. let n = eqb-false (refusal M) 0 t in ((h.refused n).0 ∙ sym (k.refused n).0, λ i. (h.refused n).1 i ∙ sym ((k.refused n).1 i))) in
-    (h.number ∙ sym k.number, same)
+-- two of one table tell the same refusal or hold the same
+pub basis-same : {M : Table} {p : Result Basis Refusal} {q : Result Basis Refusal} → BasisOf M p → BasisOf M q
+    → (code_of p ≡ code_of q) × IfOk p (λ b. IfOk q (SameRings b))
+basis-same {M = M} {p = Ok b} {q = Ok c} h k = (h.number ∙ sym k.number, holds_same h.rings k.rings)
+basis-same {M = M} {p = Ok b} {q = Err e} h k = (h.number ∙ sym k.number, tt)
+basis-same {M = M} {p = Err d} {q = q} h k = (h.number ∙ sym k.number, tt)
 
 -- ---- Assemblies
 

@@ -196,8 +196,8 @@ module _ {M : Table} {lower ways rings : List ℕ} {n k : ℕ} (t : Tried M lowe
   tried_turn = (tried_ring, tried_join)
 
 -- after the last bond the rings are the basis rings
-pub tried_all : {M : Table} {lower ways rings : List ℕ} {number n k : ℕ} → Valid M → Tried M lower ways (sets_in rings) n k → bonds M ≤ k
-    → Holds M (record { number = number; rings = rings; count = n })
+pub tried_all : {M : Table} {lower ways rings : List ℕ} {n k : ℕ} → Valid M → Tried M lower ways (sets_in rings) n k → bonds M ≤ k
+    → Holds M (record { rings = rings; count = n })
 unfolding basis_rings
 tried_all {M} {rings = rings} {n = n} valid t h =
     let whole : take n (sets_in rings) ≡ listed (bonds M) (closure? M) (basis_ring M) = t.found.list ∙ ap (λ (i : ℕ). listed i (closure? M) (basis_ring M)) (le_antisymm t.within h) in

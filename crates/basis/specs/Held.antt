@@ -1,11 +1,13 @@
 -- What a Basis and Assemblies hold, and whose they are. Assumes nothing.
-use Rattle.std.specs.Prelude.{◌≡◌, ◌≢◌, List, map, ℕ, ◌≤◌, ◌<◌, eqb, length, get_or, take}
+use Rattle.std.specs.Prelude.{◌≡◌, List, map, ℕ, ◌≤◌, ◌<◌, eqb, length, get_or, take, Result, IfOk}
 use Rattle.sets.specs.Ring.{bits}
 use Rattle.sets.specs.Lists.{sets_in}
 use Rattle.definitions.specs.Search.{set_of}
 use Rattle.definitions.specs.Table.{Table, max_bonds, refusal}
 use Rattle.definitions.specs.Basis.{basis_rings}
 use Rattle.definitions.specs.Assembly.{assemblies_of, assembly_count}
+use Rattle.answers.specs.Told.{code_of}
+use Rattle.answers.specs.declared.refusal.Refusal.{Refusal}
 use Rattle.basis.specs.declared.basis.Basis.{Basis}
 use Rattle.basis.specs.declared.assembly.Assemblies.{Assemblies}
 
@@ -20,11 +22,10 @@ pub record Holds (M : Table) (b : Basis) : Type 0 where
   pub counted : b.count ≤ max_bonds
   pub blank : (i : ℕ) → b.count ≤ i → get_or (sets_in b.rings) i 0 ≡ 0
 
--- b is the number of the refusal and nothing else, or 0 and the basis rings
-pub record BasisOf (M : Table) (b : Basis) : Type 0 where
-  pub number : b.number ≡ refusal M
-  pub refused : refusal M ≢ 0 → (b.count ≡ 0) × ((i : ℕ) → get_or (sets_in b.rings) i 0 ≡ 0)
-  pub accepted : refusal M ≡ 0 → Holds M b
+-- r tells why the table is refused, or holds the basis rings
+pub record BasisOf (M : Table) (r : Result Basis Refusal) : Type 0 where
+  pub number : code_of r ≡ refusal M
+  pub rings : IfOk r (Holds M)
 
 -- the sets of basis rings, one an assembly
 abbrev pub members_of : Assemblies → List ℕ

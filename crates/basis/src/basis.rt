@@ -3,30 +3,22 @@ ghost use Rattle.definitions.specs.Table.{table};
 ghost use Rattle.basis.specs.Held.{BasisOf};
 
 use super::climb::{apart, climb_from, join, settle};
-use answers::{ATOM_WORDS, BASIS_WORDS};
-use table::{ends_of, refusal_of};
+use answers::{ATOM_WORDS, BASIS_WORDS, Refusal};
+use table::{accept, ends_of};
 
-// The number of the refusal, or 0 with the basis rings of a table in order of closure bonds: the first count sets of a list.
+// The basis rings of a table in order of closure bonds: the first count sets of a list.
 #[derive(Clone, Copy)]
 pub struct Basis {
-    pub number: u8,
     pub rings: [u64; BASIS_WORDS],
     pub count: usize,
 }
 
 // The basis rings of a table. The bonds are tried in order: one between two fragments makes them one, and one within a fragment, with the
 // ways from its ends to the first atom, is a basis ring.
-pub fn basis_of(atoms: u64, bonds: &[u8]) -> Basis
+pub fn basis_of(atoms: u64, bonds: &[u8]) -> Result<Basis, Refusal>
     ensures { BasisOf (table atoms bonds.now) result }
 {
-    let number = refusal_of(atoms, bonds);
-    if number > 0 {
-        return Basis {
-            number,
-            rings: [0u64; BASIS_WORDS],
-            count: 0,
-        };
-    }
+    accept(atoms, bonds)?;
     let mut lower = apart(atoms as usize);
     let mut ways = [0u64; ATOM_WORDS];
     let mut rings = [0u64; BASIS_WORDS];
@@ -47,9 +39,5 @@ pub fn basis_of(atoms: u64, bonds: &[u8]) -> Basis
         }
         k += 1;
     }
-    Basis {
-        number,
-        rings,
-        count,
-    }
+    Ok(Basis { rings, count })
 }

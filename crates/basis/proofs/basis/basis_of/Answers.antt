@@ -9,16 +9,15 @@ use Rattle.sets.proofs.Lists.{sets-blank}
 use Rattle.definitions.specs.Table.{Table, table, tail, head, max_atoms, max_bonds}
 use Rattle.definitions.proofs.Refusals.{Valid, accepted}
 use Rattle.table.proofs.Fitting.{valid_fitting, EndAt, ends-inside}
-use Rattle.basis.proofs.Holding.{basis-refused, basis-accepted}
 use Rattle.basis.proofs.Leading.{climbed_low}
 use Rattle.basis.proofs.Trying.{Tried, Reached, tried_none, climbs_reached, tried_settled, tried_turn, tried_all}
 use borrow.Author.Rules.{rules}
 use Rattle.basis.proofs.basis.basis_of.Goals as goal
-use Rattle.basis.proofs.basis.basis_of.Goals.{Else-number-gt0, In-loop-k, After-ends_of-ends, After-climb_from-one, After-settle, then-one-other, else-one-other}
+use Rattle.basis.proofs.basis.basis_of.Goals.{In_ok-accept, In-loop-k, After-ends_of-ends, After-climb_from-one, After-settle, then-one-other, else-one-other}
 
 -- an accepted table is valid
-valid : (c : Else-number-gt0) → Valid (table c.args.atoms c.args.bonds.now)
-valid c = (accepted (table c.args.atoms c.args.bonds.now)).0 (omega (arith, c.refusal_of-number.ensures))
+valid : (c : In_ok-accept) → Valid (table c.args.atoms c.args.bonds.now)
+valid c = (accepted (table c.args.atoms c.args.bonds.now)).0 (omega (arith, c.accept.ensures))
 
 -- a turn tries one of the bonds, of which there are no more than places
 few : (c : In-loop-k) → Valid (table c.args.atoms c.args.bonds.now) → c.loop-k.k < max_bonds
@@ -55,11 +54,8 @@ first : (c : After-settle) → let M = table c.args.atoms c.args.bonds.now in
 first c v l =
     tried_settled c.loop-k.invariant.1 v l (climbs_reached c.loop-k.invariant.1 l c.climb_from-one.ensures) c.settle.ensures.0 c.settle.ensures.1
 
-pub returns-then-number-gt0 : goal.returns-then-number-gt0
-returns-then-number-gt0 c = basis-refused c.refusal_of-number.ensures c.if-number-gt0.true
-
 pub apart-lower-requires : goal.apart-lower-requires
-apart-lower-requires c = (valid (goal.at.apart-lower-requires c).Else-number-gt0).few-atoms
+apart-lower-requires c = (valid (goal.at.apart-lower-requires c).In_ok-accept).few-atoms
 
 pub loop-k-init : goal.loop-k-init
 loop-k-init c = (refl, tried_none _ _ (search rules) c.apart-lower.ensures.0 c.apart-lower.ensures.1 (sets-blank max_atoms) (sets-blank max_bonds))
@@ -67,19 +63,19 @@ loop-k-init c = (refl, tried_none _ _ (search rules) c.apart-lower.ensures.0 c.a
 pub climb_from-one-requires : goal.climb_from-one-requires
 climb_from-one-requires c =
     let at = goal.at.climb_from-one-requires c in
-    (c.loop-k.invariant.1.falling, (ends at.After-ends_of-ends (valid at.Else-number-gt0)).0.1)
+    (c.loop-k.invariant.1.falling, (ends at.After-ends_of-ends (valid at.In_ok-accept)).0.1)
 
 pub settle-requires : goal.settle-requires
-settle-requires c = let at = goal.at.settle-requires c in (ends at.After-ends_of-ends (valid at.Else-number-gt0)).0.1
+settle-requires c = let at = goal.at.settle-requires c in (ends at.After-ends_of-ends (valid at.In_ok-accept)).0.1
 
 pub climb_from-other-requires : goal.climb_from-other-requires
 climb_from-other-requires c =
     let at = goal.at.climb_from-other-requires c in
-    let v = valid at.Else-number-gt0 in
+    let v = valid at.In_ok-accept in
     ((first at.After-settle v (low at.After-ends_of-ends v).0).0.falling, (ends at.After-ends_of-ends v).1.1)
 
 pub settle-requires-in-loop-k : goal.settle-requires-in-loop-k
-settle-requires-in-loop-k c = let at = goal.at.settle-requires-in-loop-k c in (ends at.After-ends_of-ends (valid at.Else-number-gt0)).1.1
+settle-requires-in-loop-k c = let at = goal.at.settle-requires-in-loop-k c in (ends at.After-ends_of-ends (valid at.In_ok-accept)).1.1
 
 pub slice_bounds-put_at-end : goal.slice_bounds-put_at-end
 slice_bounds-put_at-end c = sym c.loop-k.invariant.0
@@ -87,15 +83,15 @@ slice_bounds-put_at-end c = sym c.loop-k.invariant.0
 pub put_at-requires : goal.put_at-requires
 put_at-requires c =
     let at = goal.at.put_at-requires c in
-    omega (arith, free at.In-loop-k (valid at.Else-number-gt0), c.loop-k.invariant.1.found.long)
+    omega (arith, free at.In-loop-k (valid at.In_ok-accept), c.loop-k.invariant.1.found.long)
 
 pub overflow_add-count : goal.overflow_add-count
-overflow_add-count c = let at = goal.at.overflow_add-count c in omega (arith, free at.In-loop-k (valid at.Else-number-gt0))
+overflow_add-count c = let at = goal.at.overflow_add-count c in omega (arith, free at.In-loop-k (valid at.In_ok-accept))
 
 pub join-requires : goal.join-requires
 join-requires c =
     let at = goal.at.join-requires c in
-    let both = ends at.After-ends_of-ends (valid at.Else-number-gt0) in
+    let both = ends at.After-ends_of-ends (valid at.In_ok-accept) in
     omega (
       arith,
       climbed_low c.climb_from-one.ensures.climbed,
@@ -105,12 +101,12 @@ join-requires c =
     )
 
 pub overflow_add-k : goal.overflow_add-k
-overflow_add-k c = let at = goal.at.overflow_add-k c in omega (arith, few at.In-loop-k (valid at.Else-number-gt0))
+overflow_add-k c = let at = goal.at.overflow_add-k c in omega (arith, few at.In-loop-k (valid at.In_ok-accept))
 
 pub loop-k-preserved : goal.loop-k-preserved
 loop-k-preserved c =
     let at = goal.at.loop-k-preserved c in
-    let v = valid at.Else-number-gt0 in
+    let v = valid at.In_ok-accept in
     let inside = low at.After-ends_of-ends v in
     let e = ends at.After-ends_of-ends v in
     let once = first at.After-settle v inside.0 in
@@ -128,5 +124,4 @@ loop-k-preserved c =
     ]
 
 pub returns : goal.returns
-returns c =
-    basis-accepted c.refusal_of-number.ensures (omega arith) (tried_all (valid (goal.at.returns c).Else-number-gt0) c.loop-k.invariant.1 c.loop-k-test.false)
+returns c = record { number = c.in_ok-accept.ensures; rings = tried_all (valid (goal.at.returns c).In_ok-accept) c.loop-k.invariant.1 c.loop-k-test.false }
