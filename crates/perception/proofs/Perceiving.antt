@@ -3,7 +3,6 @@
 --     Added members m n a    a loop over m assemblies that adds up their sums: none below a has too many basis rings, and they have n sums
 -- Assumes nothing.
 use mathlib.Core.Path.{◌≡◌, refl, sym, ap, subst, ◌∙◌}
-use mathlib.Core.Logic.{◌≢◌}
 use mathlib.Core.Bool.{Bool, true, false, cond}
 use mathlib.Core.List.{List, Memᴰ as In}
 use Prim.Native.Nat.{ℕ, zero, suc, ◌+◌, ◌-◌, ◌*◌, ◌%◌, ◌^◌, ◌<◌, ◌≤◌}
@@ -11,15 +10,13 @@ use native.Mathlib.Numerals.{add-one}
 use native.Mathlib.Nat.{le_antisymm}
 use native.Mathlib.Decide.{le_ind}
 use native.Mathlib.Omega.{arith}
-use lib.ListN.{length, get_or, replicate}
+use lib.ListN.{length, get_or}
 use lib.Pow.{pow_pos, pow_mono}
-use lib.Dec.{ltb, eqb}
-use borrow.Author.Tests.{ltb-true, ltb-false, eqb-true, eqb-false}
+use lib.Dec.{ltb}
+use borrow.Author.Tests.{ltb-true, ltb-false}
 use Rattle.sets.specs.Bits.{size}
-use Rattle.sets.specs.Ring.{bits, no_rings}
-use Rattle.sets.specs.Lists.{words, sets_in}
-use Rattle.sets.proofs.Lists.{sets-blank}
-use Rattle.sets.proofs.Machine.{one_shl, no_rings_lem}
+use Rattle.sets.specs.Lists.{sets_in}
+use Rattle.sets.proofs.Machine.{one_shl}
 use Rattle.definitions.specs.Search.{Each, Some, some?, listed, total, sort}
 use Rattle.definitions.specs.Table.{Table, max_bonds, TANGLED}
 use Rattle.definitions.specs.Basis.{basis_rings}
@@ -27,20 +24,27 @@ use Rattle.definitions.specs.Assembly.{rings_in, max_assembly, tangled?}
 use Rattle.definitions.specs.AllRings.{before, all_rings}
 use Rattle.definitions.specs.Answer.{refusal_of_rings}
 use Rattle.definitions.proofs.Tests.{by, some_ext, Tells, true_of, false_of, tells_ltb, tells_some}
-use Rattle.definitions.proofs.Lists.{listed_ext, length-gather, get_or-same}
+use Rattle.definitions.proofs.Lists.{listed_ext, length-gather}
 use Rattle.definitions.proofs.Refusals.{Valid, accepted, rings-kept, rings-free, rings-accepted}
 use Rattle.definitions.proofs.Linking.{rings-total}
 use Rattle.cycles.proofs.BasisList.{even-sums}
 use Rattle.cycles.proofs.Bound.{most_rings, total-last, total_share, sums_share}
-use Rattle.basis.specs.Held.{rings_of, Holds, BasisOf, members_of, AssembliesOf}
+use Rattle.std.proofs.Common.{Result, Ok, Err, IfOk}
+use Rattle.std.specs.Result.{IsErrAnd}
+use Rattle.std.proofs.lemmas.Result.{err_from_is_err_and}
+use Rattle.answers.specs.Told.{number_of, code_of}
+use Rattle.answers.specs.declared.refusal.Refusal.{Refusal}
+use Rattle.answers.specs.declared.refusal.Refusal.TheVariants.{Tangled}
+use Rattle.answers.proofs.Answers.{number-some}
+use Rattle.basis.specs.Held.{rings_of, BasisOf, members_of, AssembliesOf}
 use Rattle.basis.specs.declared.basis.Basis.{Basis}
 use Rattle.basis.specs.declared.assembly.Assemblies.{Assemblies}
-use Rattle.basis.proofs.Holding.{basis_held, SameRings, SameAssemblies, holds_same, assemblies-same, members-at, held_assemblies, members-size, picked_all}
+use Rattle.basis.proofs.Holding.{SameRings, SameAssemblies, holds_same, assemblies-same, held_assemblies, members-size, picked_all}
 use Rattle.combining.specs.Gibbs.{combined, found_at, found_in}
 use Rattle.combining.proofs.Turns.{found-few}
 use Rattle.combining.proofs.Exactly.{all_combined, all_combined_in, all_combined_lem}
 use Rattle.choosing.specs.Elimination.{Spanned}
-use Rattle.perception.specs.Perceiving.{sums_in, Nothing, Refused, Accepted, Perceives}
+use Rattle.perception.specs.Perceiving.{sums_in, Accepted, Perceives}
 use Rattle.perception.specs.declared.Perceived.{Perceived}
 
 -- ---- too many of them
@@ -155,50 +159,35 @@ all_found-most rings members n small = omega (arith, all_found-few rings members
 
 -- ---- the answers
 
--- lists of empty sets hold nothing
-pub nothing_held : {number : ℕ} → Nothing (record { number = number; rings = replicate (max_bonds * words) 0; count = 0 }) (record { members = replicate max_bonds no_rings; count = 0 })
-nothing_held = record {
-  rings = refl;
-  sets = λ i. ap (λ (l : List ℕ). get_or l i 0) (sets-blank max_bonds) ∙ get_or-same max_bonds i 0;
-  assemblies = refl;
-  members = λ a. members-at (replicate max_bonds no_rings) a ∙ ap bits (get_or-same max_bonds a no_rings) ∙ no_rings_lem;
-}
+-- the table is refused, and that is passed on
+pub perceives_refused : {M : Table} (r : Result Perceived Refusal) (e : Refusal) → BasisOf M (Err e) → IsErrAnd r (λ d. d ≡ e) → Perceives M r
+perceives_refused {M} r e basis same =
+    let p = err_from_is_err_and r same in
+    let kept : number_of e ≡ refusal_of_rings M = basis.number ∙ sym (rings-kept M (λ z. absurd (omega (arith, basis.number, number-some e)))) in
+    rw (p.1, p.2) (let told : Perceives M (Err e) = record { number = kept; worked = tt } in told)
 
--- the table is refused
-pub perceives_refused : {M : Table} {b : Basis} {p : Perceived} → BasisOf M b → 0 < b.number → Refused b.number p → Perceives M p
-perceives_refused {M} {b} {p} basis h r =
-    let kept : b.number ≡ refusal_of_rings M = basis.number ∙ sym (rings-kept M (λ z. absurd (omega (arith, basis.number)))) in
-    record { number = r.number ∙ kept; refused = λ n. subst (λ c. Refused c p) kept r; accepted = λ z. absurd (omega arith) }
-
-module _ {M : Table} {b : Basis} {s : Assemblies} (basis : BasisOf M b) (zero : b.number ≤ 0) (h : AssembliesOf (rings_of b) s)
+module _ {M : Table} {b : Basis} {s : Assemblies} (basis : BasisOf M (Ok b)) (h : AssembliesOf (rings_of b) s)
   where
-    held : Holds M b
-    held = basis_held basis zero
-
     -- the assemblies alone decide
     decided : {c : Bool} → tangled_in (members_of s) s.count ≡ c → refusal_of_rings M ≡ cond c TANGLED 0
-    decided e = rings-free M (omega (arith, basis.number)) ∙ ap (λ c. cond c TANGLED 0) (sym (tangled_test M (held_assemblies held h)) ∙ e)
+    decided e = rings-free M (sym basis.number) ∙ ap (λ c. cond c TANGLED 0) (sym (tangled_test M (held_assemblies basis.rings h)) ∙ e)
 
     -- an assembly has too many basis rings
-    pub perceives_tangled : {p : Perceived} → tangled_in (members_of s) s.count ≡ true → Refused TANGLED p → Perceives M p
-    perceives_tangled {p} q r =
-        let e : TANGLED ≡ refusal_of_rings M = sym (decided q) in
-        record { number = r.number ∙ e; refused = λ n. subst (λ c. Refused c p) e r; accepted = λ z. absurd (omega arith) }
+    pub perceives_tangled : tangled_in (members_of s) s.count ≡ true → Perceives M (Err Tangled)
+    perceives_tangled q = record { number = sym (decided q); worked = tt }
 
     -- none has
-    pub perceives_all : {n : ℕ} → tangled_in (members_of s) s.count ≡ false → n ≡ sums_in (members_of s) s.count → Perceives M (record { number = 0; basis = b; assemblies = s; sums = n })
+    pub perceives_all : {n : ℕ} → tangled_in (members_of s) s.count ≡ false → n ≡ sums_in (members_of s) s.count → Perceives M (Ok (record { basis = b; assemblies = s; sums = n }))
     perceives_all q e = record {
       number = sym (decided q);
-      refused = λ n. absurd (n (decided q));
-      accepted = λ z. record { clear = omega arith; basis = held; assemblies = held_assemblies held h; sums = e };
+      worked = record { basis = basis.rings; assemblies = held_assemblies basis.rings h; sums = e };
     }
 
 -- ---- one outcome only
 
 -- two of which nothing differs
 pub record Same (p q : Perceived) : Type 0 where
-  pub number : p.number ≡ q.number
-  pub basis : (p.basis.number ≡ q.basis.number) × SameRings p.basis q.basis
+  pub basis : SameRings p.basis q.basis
   pub assemblies : SameAssemblies p.assemblies q.assemblies
   pub sums : p.sums ≡ q.sums
 
@@ -209,45 +198,32 @@ sums_same s t (count, members) =
     ∙ ap (sums_in (members_of t)) count
 
 -- what two calls work out of one table differs in nothing
-pub perceives_same : {M : Table} {p q : Perceived} → Perceives M p → Perceives M q → Same p q
-perceives_same {M} {p} {q} h k = by (eqb (refusal_of_rings M) 0) (λ t. both (eqb-true (refusal_of_rings M) 0 t)) (λ t. none (eqb-false (refusal_of_rings M) 0 t))
+pub perceives_same : {M : Table} {p : Result Perceived Refusal} {q : Result Perceived Refusal} → Perceives M p → Perceives M q
+    → (code_of p ≡ code_of q) × IfOk p (λ a. IfOk q (Same a))
+perceives_same {M = M} {p = Ok a} {q = Ok b} h k = (h.number ∙ sym k.number, both)
   where
-    number : p.number ≡ q.number
-    number = h.number ∙ sym k.number
+    parts : SameAssemblies a.assemblies b.assemblies
+    parts = assemblies-same h.worked.assemblies k.worked.assemblies
 
-    both : refusal_of_rings M ≡ 0 → Same p q
-    both z =
-        let a = h.accepted z in
-        let b = k.accepted z in
-        let parts = assemblies-same a.assemblies b.assemblies in
-        record {
-          number = number;
-          basis = (a.clear ∙ sym b.clear, holds_same a.basis b.basis);
-          assemblies = parts;
-          sums = a.sums ∙ sums_same p.assemblies q.assemblies parts ∙ sym b.sums;
-        }
-
-    none : refusal_of_rings M ≢ 0 → Same p q
-    none n =
-        let a = h.refused n in
-        let b = k.refused n in
-        record {
-          number = number;
-          basis = (a.same ∙ sym b.same, (a.nothing.rings ∙ sym b.nothing.rings, λ i. a.nothing.sets i ∙ sym (b.nothing.sets i)));
-          assemblies = (a.nothing.assemblies ∙ sym b.nothing.assemblies, λ i. a.nothing.members i ∙ sym (b.nothing.members i));
-          sums = a.sums ∙ sym b.sums;
-        }
+    both : Same a b
+    both = record {
+      basis = holds_same h.worked.basis k.worked.basis;
+      assemblies = parts;
+      sums = h.worked.sums ∙ sums_same a.assemblies b.assemblies parts ∙ sym k.worked.sums;
+    }
+perceives_same {M = M} {p = Ok a} {q = Err e} h k = (h.number ∙ sym k.number, tt)
+perceives_same {M = M} {p = Err d} {q = q} h k = (h.number ∙ sym k.number, tt)
 
 -- ---- what is worked out of an accepted table
 
-module _ {M : Table} {p : Perceived} (seen : Perceives M p) (zero : p.number ≤ 0) where
+module _ {M : Table} {p : Perceived} (seen : Perceives M (Ok p)) where
   -- nothing is refused
   pub unrefused : refusal_of_rings M ≡ 0
-  unrefused = omega (arith, seen.number)
+  unrefused = sym seen.number
 
   -- it is worked out
   pub perceived : Accepted M p
-  perceived = seen.accepted unrefused
+  perceived = seen.worked
 
   -- the table is valid
   pub perceived_valid : Valid M

@@ -9,8 +9,8 @@ use Rattle.perception.proofs.Perceiving.{added_none, added_tangled, added_empty,
 use Rattle.perception.proofs.perceive.Goals as goal
 use Rattle.perception.proofs.perceive.Goals.{After-size-rings}
 
-pub returns-then-basis-gt0 : goal.returns-then-basis-gt0
-returns-then-basis-gt0 c = perceives_refused c.basis_of-basis.ensures c.if-basis-gt0.true c.refused.ensures
+pub returns-in_err-basis : goal.returns-in_err-basis
+returns-in_err-basis c = perceives_refused _ _ c.in_err-basis.ensures c.from_residual.ensures.1
 
 pub loop-a-init : goal.loop-a-init
 loop-a-init c = added_none _ _
@@ -20,8 +20,8 @@ told : (c : After-size-rings) → c.size-rings.result ≡ size (get_or (members_
 told c = c.size-rings.ensures.0 ∙ ap size (sym (members-at c.assemblies_of-assemblies.result.members c.loop-a.a))
 
 pub returns-then-rings-gt-MAX_ASSEMBLY : goal.returns-then-rings-gt-MAX_ASSEMBLY
-returns-then-rings-gt-MAX_ASSEMBLY c = perceives_tangled c.basis_of-basis.ensures (omega arith) c.assemblies_of-assemblies.ensures
-    (added_tangled c.loop-a.invariant (omega arith) (told (goal.at.returns-then-rings-gt-MAX_ASSEMBLY c).After-size-rings) (omega arith)) c.refused-then-rings-gt-MAX_ASSEMBLY.ensures
+returns-then-rings-gt-MAX_ASSEMBLY c = perceives_tangled c.in_ok-basis.ensures c.assemblies_of-assemblies.ensures
+    (added_tangled c.loop-a.invariant (omega arith) (told (goal.at.returns-then-rings-gt-MAX_ASSEMBLY c).After-size-rings) (omega arith))
 
 pub overflow_sub-sums : goal.overflow_sub-sums
 overflow_sub-sums c = added_empty c.loop-a.invariant (omega arith) (told (goal.at.overflow_sub-sums c).After-size-rings) (omega arith)
@@ -33,5 +33,5 @@ pub loop-a-preserved : goal.loop-a-preserved
 loop-a-preserved c = added_more c.loop-a.invariant (omega arith) (told (goal.at.loop-a-preserved c).After-size-rings) (omega arith)
 
 pub returns : goal.returns
-returns c = perceives_all c.basis_of-basis.ensures (omega arith) c.assemblies_of-assemblies.ensures
+returns c = perceives_all c.in_ok-basis.ensures c.assemblies_of-assemblies.ensures
     (added_untangled c.loop-a.invariant (omega arith)) (added_all c.loop-a.invariant (omega arith))
