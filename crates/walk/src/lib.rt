@@ -3,46 +3,28 @@
 
 mod round;
 
-ghost use Rattle.std.specs.Prelude.{◌≡◌, cond, ◌/◌, ◌≤◌, length, take};
+ghost use Rattle.std.specs.Prelude.{◌≡◌, cond};
 ghost use Rattle.sets.specs.Bond.{bits};
 ghost use Rattle.definitions.specs.Table as spec;
 ghost use Rattle.definitions.specs.Walk.{walk_atoms, walk_bonds};
-ghost use Rattle.definitions.specs.Answer.{outcome_of, over, refusal_of_walk, written_both};
-ghost use Rattle.table.specs.Ends.{bonds_alone, Fitting};
-ghost use Rattle.table.specs.Rows.{Rowed};
+ghost use Rattle.definitions.specs.Answer.{outcome_of, refusal_of_walk, written_both};
 ghost use Rattle.walking.specs.Closing.{walks?};
+ghost use Rattle.walk.specs.Going.{table_of};
 
-use answers::{ATOM_WORDS, Answer, MAX_BONDS, NOTRING, ROOM};
-use round::walk_of;
+use answers::{Answer, MAX_BONDS, NOTRING, ROOM};
+use round::{Ring, Walk};
 use sets::BondSet;
 
-// Copies the first n bytes of a list over the start of another.
-fn copy_bytes(from: &[u8], n: usize, to: &mut [u8])
-    requires { (n ≤ length from.now) × (n ≤ length to.old) }
-    ensures { to.new ≡ over (take n from.now) to.old }
+// Writes the walk round a ring of an accepted table: 9 where one does not come round, then 8 where a list is too short.
+fn write_walk(ring: &Ring<'_>, ring_atoms: &mut [u8], ring_bonds: &mut [u8]) -> Answer
+    ensures { outcome_of result.number result.count (ring_atoms.new, ring_bonds.new) ≡ written_both (cond (walks? (table_of ring.now) (bits ring.now.set)) 0 spec.NOTRING) (walk_atoms (table_of ring.now) (bits ring.now.set), walk_bonds (table_of ring.now) (bits ring.now.set)) (ring_atoms.old, ring_bonds.old) }
 {
-    let mut i: usize = 0;
-    while i < n {
-        to[i] = from[i];
-        i += 1;
-    }
-}
-
-// Writes the walk round a set of an accepted table: 9 where one does not come round, then 8 where a list is too short.
-fn write_walk(
-    bonds: &[u8],
-    rows: &[u64; ATOM_WORDS],
-    set: BondSet,
-    ring_atoms: &mut [u8],
-    ring_bonds: &mut [u8],
-) -> Answer
-    requires { Fitting bonds.now × Rowed bonds.now (length bonds.now / 2) rows.now }
-    ensures { outcome_of result.number result.count (ring_atoms.new, ring_bonds.new) ≡ written_both (cond (walks? (bonds_alone bonds.now) (bits set)) 0 spec.NOTRING) (walk_atoms (bonds_alone bonds.now) (bits set), walk_bonds (bonds_alone bonds.now) (bits set)) (ring_atoms.old, ring_bonds.old) }
-{
-    let mut visited = [0u8; MAX_BONDS];
-    let mut crossed = [0u8; MAX_BONDS];
-    let closes = walk_of(bonds, rows, set, &mut visited, &mut crossed);
-    let size = set.size();
+    let mut walk = Walk {
+        atoms: [0; MAX_BONDS],
+        bonds: [0; MAX_BONDS],
+    };
+    let closes = ring.comes_round(&mut walk);
+    let size = ring.set.size();
     let short = (ring_atoms.len() < size) | (ring_bonds.len() < size);
     if !closes {
         return Answer {
@@ -56,8 +38,8 @@ fn write_walk(
             count: 0,
         };
     }
-    copy_bytes(&visited, size, ring_atoms);
-    copy_bytes(&crossed, size, ring_bonds);
+    ring_atoms[..size].copy_from_slice(&walk.atoms[..size]);
+    ring_bonds[..size].copy_from_slice(&walk.bonds[..size]);
     Answer {
         number: 0,
         count: size,
@@ -82,5 +64,10 @@ pub fn ring_walk(
             count: 0,
         };
     }
-    write_walk(bonds, &seen.rows, set, ring_atoms, ring_bonds)
+    let ring = Ring {
+        bonds,
+        rows: &seen.rows,
+        set,
+    };
+    write_walk(&ring, ring_atoms, ring_bonds)
 }

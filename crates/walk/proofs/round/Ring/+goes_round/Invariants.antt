@@ -1,5 +1,5 @@
 -- Each place is noted before the next is looked for, and the walk goes on with one bond less to go. Assumes nothing.
-use Rattle.walk.proofs.round.+goes_round.Given as goal
+use Rattle.walk.proofs.round.Ring.+goes_round.Given as goal
 
 -- so many bonds are left
 abbrev pub decreases-goes_round : goal.decreases-goes_round
