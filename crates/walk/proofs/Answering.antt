@@ -10,14 +10,18 @@ use lib.Dec.{eqb, ltb}
 use lib.ListN.{length, take, drop}
 use lib.Seq.{sets, sets-eq, take_at}
 use Rattle.sets.specs.Bits.{size}
-use Rattle.definitions.specs.Table.{Table, table, refusal, NOTRING, ROOM}
+use Rattle.definitions.specs.Table.{Table, table, refusal, NOTRING}
 use Rattle.definitions.specs.Ring.{degree, ring?}
 use Rattle.definitions.specs.Walk.{other_bond, onward, walk_from, walk_start, walk_of, walk_atoms, walk_bonds}
-use Rattle.definitions.specs.Answer.{Outcome, outcome_of, over, refusal_of_walk, written_both}
+use Rattle.definitions.specs.Answer.{Outcome, over, refusal_of_walk, written_both}
 use Rattle.definitions.proofs.Tests.{not_passed, clashes, same_test, Tells, true_of, false_of, tells_ltb, tells_or}
 use Rattle.definitions.proofs.Refusals.{tells_rooms, walk_kept, walk-free}
 use Rattle.definitions.proofs.Rings.{ring_test}
-use Rattle.answers.proofs.Answers.{outcome-refused, outcome_short, outcome-given}
+use Rattle.std.proofs.Common.{Ok, Err}
+use Rattle.answers.specs.Told.{number_of, told}
+use Rattle.answers.specs.declared.refusal.Refusal.{Refusal}
+use Rattle.answers.specs.declared.refusal.Refusal.TheVariants.{NotRing, Room}
+use Rattle.answers.proofs.Answers.{number-some, outcome-refused, outcome_short, outcome-given}
 use Rattle.table.specs.Ends.{bonds_alone}
 use Rattle.walking.specs.Closing.{closes?, walks?}
 use Rattle.walking.proofs.Steps.{atoms-length, bonds-length}
@@ -44,31 +48,31 @@ module _ (M : Table) (s : ℕ) (lent : List ℕ × List ℕ) where
   abbrev answer : ℕ → Outcome (List ℕ × List ℕ)
   answer c = written_both c (walk_atoms M s, walk_bonds M s) lent
 
-  -- a number above 0 is told with nothing written
-  both_refused : {r c : ℕ} → r ≡ c → 0 < r → outcome_of r 0 lent ≡ answer c
+  -- a refusal is told with nothing written
+  both_refused : {c : ℕ} → (e : Refusal) → number_of e ≡ c → told (Err e) lent ≡ answer c
   unfolding written_both
-  both_refused e h = outcome-refused e _ _ _ lent h
+  both_refused e given = outcome-refused _ _ _ lent e given
 
   -- where the walk tells whether one comes round
-  module _ {t : Bool} (told : t ≡ walks? M s) where
+  module _ {t : Bool} (closes : t ≡ walks? M s) where
     -- the number for a set of an accepted table
     abbrev number : ℕ
     number = cond (walks? M s) 0 NOTRING
 
     -- where one does not, that is told
-    pub walked_refused : t ≡ false → outcome_of NOTRING 0 lent ≡ answer number
-    walked_refused e = both_refused (ap (λ (b : Bool). cond b 0 NOTRING) (sym e ∙ told)) (omega arith)
+    pub walked_refused : t ≡ false → told (Err NotRing) lent ≡ answer number
+    walked_refused e = both_refused NotRing (ap (λ (b : Bool). cond b 0 NOTRING) (sym e ∙ closes))
 
     module _ (e : t ≡ true) {n : ℕ} (all : n ≡ size s) where
       -- nothing is refused
       free : 0 ≡ number
-      free = ap (λ (b : Bool). cond b 0 NOTRING) (sym e ∙ told)
+      free = ap (λ (b : Bool). cond b 0 NOTRING) (sym e ∙ closes)
 
       -- where one does, that a list is too short
-      pub walked_short : short? lent n ≡ true → outcome_of ROOM 0 lent ≡ answer number
+      pub walked_short : short? lent n ≡ true → told (Err Room) lent ≡ answer number
       unfolding written_both
       walked_short h =
-          outcome_short free _ _ _ lent (omega arith)
+          outcome_short _ _ _ lent free
           (not_passed _ (λ r.
           let (i, j) = (tells_rooms (walk_atoms M s) (walk_bonds M s) lent.0 lent.1).yes_says r in
           clashes h (false_of (shorts lent n) (omega (arith, atoms-length M s), omega (arith, bonds-length M s)))))
@@ -76,11 +80,11 @@ module _ (M : Table) (s : ℕ) (lent : List ℕ × List ℕ) where
       -- or what was noted is copied
       pub walked_given : short? lent n ≡ false → (w : Walk) {w' : Walk} {a b : List ℕ} → (t ≡ true → w' ≡ noted w 0 (walk_of M s))
           → n ≤ length w.atoms → n ≤ length w.bonds → a ≡ take n w'.atoms → b ≡ take n w'.bonds
-          → outcome_of 0 n (a ++ drop n lent.0, b ++ drop n lent.1) ≡ answer number
+          → told (Ok n) (a ++ drop n lent.0, b ++ drop n lent.1) ≡ answer number
       unfolding written_both walk_atoms walk_bonds
       walked_given h w noted-is few few' f g =
           let (i, j) = (shorts lent n).no_says h in
-          outcome-given free _ _ _ lent (omega arith)
+          outcome-given _ _ _ lent free
           (true_of (tells_rooms (walk_atoms M s) (walk_bonds M s) lent.0 lent.1) (omega (arith, atoms-length M s), omega (arith, bonds-length M s)))
           (all ∙ sym (atoms-length M s))
           (ap₂ (λ (a b : List ℕ). (a, b))
@@ -127,6 +131,7 @@ module _ (x : ℕ) (bs : List ℕ) (s : ℕ) where
       → o ≡ answer (bonds_alone bs) s lent (cond (walks? (bonds_alone bs) s) 0 NOTRING) → o ≡ answer (table x bs) s lent (refusal_of_walk (table x bs) s)
   alone_answer e lent h = h ∙ rw (walks_ring e, atoms_alone, bonds_alone_lem, ← walk-free (table x bs) s e) refl
 
-  -- and the number of a refused one is told
-  pub refused_answer : {r : ℕ} → r ≡ refusal (table x bs) → 0 < r → (lent : List ℕ × List ℕ) → outcome_of r 0 lent ≡ answer (table x bs) s lent (refusal_of_walk (table x bs) s)
-  refused_answer e h lent = both_refused (table x bs) s lent (e ∙ sym (walk_kept (table x bs) s (λ z. omega arith))) h
+  -- and the refusal of a refused one is told
+  pub refused_answer : (e : Refusal) → number_of e ≡ refusal (table x bs) → (lent : List ℕ × List ℕ) → told (Err e) lent ≡ answer (table x bs) s lent (refusal_of_walk (table x bs) s)
+  refused_answer e given lent =
+      both_refused (table x bs) s lent e (given ∙ sym (walk_kept (table x bs) s (λ z. omega (arith, given, number-some e))))

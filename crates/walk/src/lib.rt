@@ -7,17 +7,22 @@ ghost use Rattle.std.specs.Prelude.{◌≡◌, cond};
 ghost use Rattle.sets.specs.Bond.{bits};
 ghost use Rattle.definitions.specs.Table as spec;
 ghost use Rattle.definitions.specs.Walk.{walk_atoms, walk_bonds};
-ghost use Rattle.definitions.specs.Answer.{outcome_of, refusal_of_walk, written_both};
+ghost use Rattle.definitions.specs.Answer.{refusal_of_walk, written_both};
+ghost use Rattle.answers.specs.Told.{told};
 ghost use Rattle.walking.specs.Closing.{walks?};
 ghost use Rattle.walk.specs.Going.{table_of};
 
-use answers::{Answer, MAX_BONDS, NOTRING, ROOM};
+use answers::{MAX_BONDS, Refusal};
 use round::{Ring, Walk};
 use sets::BondSet;
 
 // Writes the walk round a ring of an accepted table: 9 where one does not come round, then 8 where a list is too short.
-fn write_walk(ring: &Ring<'_>, ring_atoms: &mut [u8], ring_bonds: &mut [u8]) -> Answer
-    ensures { outcome_of result.number result.count (ring_atoms.new, ring_bonds.new) ≡ written_both (cond (walks? (table_of ring.now) (bits ring.now.set)) 0 spec.NOTRING) (walk_atoms (table_of ring.now) (bits ring.now.set), walk_bonds (table_of ring.now) (bits ring.now.set)) (ring_atoms.old, ring_bonds.old) }
+fn write_walk(
+    ring: &Ring<'_>,
+    ring_atoms: &mut [u8],
+    ring_bonds: &mut [u8],
+) -> Result<usize, Refusal>
+    ensures { told result (ring_atoms.new, ring_bonds.new) ≡ written_both (cond (walks? (table_of ring.now) (bits ring.now.set)) 0 spec.NOTRING) (walk_atoms (table_of ring.now) (bits ring.now.set), walk_bonds (table_of ring.now) (bits ring.now.set)) (ring_atoms.old, ring_bonds.old) }
 {
     let mut walk = Walk {
         atoms: [0; MAX_BONDS],
@@ -27,23 +32,14 @@ fn write_walk(ring: &Ring<'_>, ring_atoms: &mut [u8], ring_bonds: &mut [u8]) -> 
     let size = ring.set.size();
     let short = (ring_atoms.len() < size) | (ring_bonds.len() < size);
     if !closes {
-        return Answer {
-            number: NOTRING,
-            count: 0,
-        };
+        return Err(Refusal::NotRing);
     }
     if short {
-        return Answer {
-            number: ROOM,
-            count: 0,
-        };
+        return Err(Refusal::Room);
     }
     ring_atoms[..size].copy_from_slice(&walk.atoms[..size]);
     ring_bonds[..size].copy_from_slice(&walk.bonds[..size]);
-    Answer {
-        number: 0,
-        count: size,
-    }
+    Ok(size)
 }
 
 // The atoms and the bonds of a ring as one meets them going round, one byte each; the refusals of a table, then 9, then 8.
@@ -53,20 +49,14 @@ pub fn ring_walk(
     set: BondSet,
     ring_atoms: &mut [u8],
     ring_bonds: &mut [u8],
-) -> Answer
-    ensures answer { outcome_of result.number result.count (ring_atoms.new, ring_bonds.new) ≡ written_both (refusal_of_walk (spec.table atoms bonds.now) (bits set)) (walk_atoms (spec.table atoms bonds.now) (bits set), walk_bonds (spec.table atoms bonds.now) (bits set)) (ring_atoms.old, ring_bonds.old) }
+) -> Result<usize, Refusal>
+    ensures answer { told result (ring_atoms.new, ring_bonds.new) ≡ written_both (refusal_of_walk (spec.table atoms bonds.now) (bits set)) (walk_atoms (spec.table atoms bonds.now) (bits set), walk_bonds (spec.table atoms bonds.now) (bits set)) (ring_atoms.old, ring_bonds.old) }
     ensures read { bonds.exit.now ≡ bonds.entry.now }
 {
-    let seen = table::rows_of(atoms, bonds);
-    if seen.number > 0 {
-        return Answer {
-            number: seen.number,
-            count: 0,
-        };
-    }
+    let rows = table::rows_of(atoms, bonds)?;
     let ring = Ring {
         bonds,
-        rows: &seen.rows,
+        rows: &rows,
         set,
     };
     write_walk(&ring, ring_atoms, ring_bonds)
