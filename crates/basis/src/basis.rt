@@ -2,8 +2,8 @@
 ghost use Rattle.definitions.specs.Table.{table};
 ghost use Rattle.basis.specs.Held.{BasisOf};
 
-use super::climb::{apart, climb_from, join, settle};
-use answers::{ATOM_WORDS, BASIS_WORDS, Refusal};
+use super::climb::Fragments;
+use answers::{BASIS_WORDS, Refusal};
 use table::{accept, ends_of};
 
 // The basis rings of a table in order of closure bonds: the first count sets of a list.
@@ -19,25 +19,22 @@ pub fn basis_of(atoms: u64, bonds: &[u8]) -> Result<Basis, Refusal>
     ensures { BasisOf (table atoms bonds.now) result }
 {
     accept(atoms, bonds)?;
-    let mut lower = apart(atoms as usize);
-    let mut ways = [0u64; ATOM_WORDS];
+    let mut fragments = Fragments::apart();
     let mut rings = [0u64; BASIS_WORDS];
     let mut count: usize = 0;
-    let mut k: usize = 0;
-    while k < bonds.len() / 2 {
+    for k in 0..bonds.len() / 2 {
         let ends = ends_of(bonds, k);
-        let one = climb_from(&lower, &ways, ends.tail);
-        settle(&mut lower, &mut ways, ends.tail, one);
-        let other = climb_from(&lower, &ways, ends.head);
-        settle(&mut lower, &mut ways, ends.head, other);
+        let one = fragments.climb_from(ends.tail);
+        fragments.settle(ends.tail, one);
+        let other = fragments.climb_from(ends.head);
+        fragments.settle(ends.head, other);
         let round = one.bonds.sum(other.bonds).with(k);
         if one.atom == other.atom {
             round.put_at(&mut rings, count);
             count += 1;
         } else {
-            join(&mut lower, &mut ways, one.atom, other.atom, round);
+            fragments.join(one.atom, other.atom, round);
         }
-        k += 1;
     }
     Ok(Basis { rings, count })
 }

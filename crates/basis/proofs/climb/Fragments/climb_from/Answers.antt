@@ -8,16 +8,16 @@ use Rattle.definitions.specs.Table.{max_atoms}
 use Rattle.basis.specs.Climbing.{Climbed}
 use Rattle.basis.specs.Climbing.Climbed.{start}
 use Rattle.basis.proofs.Leading.{climbed-on, climbed-last}
-use Rattle.basis.proofs.climb.climb_from.Goals as goal
+use Rattle.basis.proofs.climb.Fragments.climb_from.Goals as goal
 
 pub loop-a-init : goal.loop-a-init
 loop-a-init c = (omega arith, subst⁻¹ (Climbed _ _ _ _) no_bonds_lem start)
 
 pub at-requires : goal.at-requires
-at-requires c = omega (arith, sets-whole max_atoms c.args.ways.now (search rules))
+at-requires c = omega (arith, sets-whole max_atoms c.args.self.now.ways (search rules))
 
 pub loop-a-preserved : goal.loop-a-preserved
 loop-a-preserved c = (omega (arith, c.loop-a.invariant.0), climbed-on c.loop-a.invariant.1 (omega arith) c.at.ensures c.sum-bonds.ensures)
 
 pub returns : goal.returns
-returns c = climbed-last c.loop-a.invariant.1 c.requires.0 c.requires.1 (omega arith)
+returns c = climbed-last c.loop-a.invariant.1 c.args.self.now.falling c.requires (omega arith)
