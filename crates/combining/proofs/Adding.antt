@@ -6,7 +6,7 @@ use Prim.Native.Nat.{ℕ, ◌+◌, ◌-◌, ◌*◌, ◌<◌, ◌≤◌}
 use native.Mathlib.Numerals.{add-one}
 use native.Mathlib.Omega.{arith}
 use lib.ListN.{length, take, drop, get_or, set, length-append, length-drop, take-append-drop}
-use lib.Seq.{take-suc, take-length}
+use lib.Seq.{take-suc}
 use Rattle.std.proofs.lemmas.List.{drop-take}
 use Rattle.sets.specs.Lists.{sets_in, words, words_of}
 use Rattle.sets.proofs.Lists.{sets-drop, sets-take, words_are, words-between}
@@ -112,7 +112,3 @@ module _ {sums start : List ℕ} {from n : ℕ} {found : List ℕ} {count j : �
           appended_as next
           (appended_more (omega (arith, a.lent)) a.appended (appended_as (ap (λ l. rings_among l (w ∷ [])) same) b));
     }
-
-  -- after the last sum
-  pub adding_all : j ≡ length sums → Appended start n (rings_among olds sums) found count
-  adding_all e = appended_as (ap (rings_among olds) (ap (λ k. take k sums) e ∙ take-length sums)) a.appended

@@ -1,10 +1,10 @@
 -- The group of a basis ring: it is made of the old sets one by one, and each of its sums is tested against the rings found before it.
 -- Assumes nothing.
-use mathlib.Core.Path.{◌≡◌, refl, sym, ap, ap₂, subst, ◌∙◌}
+use mathlib.Core.Path.{◌≡◌, sym, ap, ap₂, subst, ◌∙◌}
 use mathlib.Core.Logic.{◌↔◌, ⊎_elim}
 use mathlib.Core.Bool.{Bool, true, false, not, ◌||◌}
 use mathlib.Core.List.Memᴰ.{not-nil as not-in-nil}
-use mathlib.Core.List.{List, [], ◌∷◌, ◌++◌, append_assoc, append-nil, map-append, Memᴰ as In}
+use mathlib.Core.List.{List, [], ◌∷◌, ◌++◌, append_assoc, map-append, Memᴰ as In}
 use Prim.Native.Nat.{ℕ, suc, ◌+◌, ◌*◌, ◌<◌, ◌≤◌}
 use native.Mathlib.Numerals.{add-one}
 use native.Mathlib.Omega.{arith}
@@ -16,7 +16,7 @@ use Rattle.sets.specs.Bits.{Sub, sub}
 use Rattle.sets.proofs.Size.{sub_test, test_sub}
 use Rattle.definitions.proofs.Tests.{not_passed, clashes, every-at, every_of, by, or-one, or_neither}
 use Rattle.definitions.proofs.Lists.{get_or_in, in_get_or, in_snoc}
-use Rattle.combining.specs.Gibbs.{group, clear?, Doubled}
+use Rattle.combining.specs.Gibbs.{group, clear?}
 
 -- ---- the group is made: the old sets below place j are summed with the ring
 
@@ -25,11 +25,6 @@ pub record Doubling (start : List ℕ) (half ring : ℕ) (sums : List ℕ) (j : 
   pub few : half + half ≤ length start
   pub long : length sums ≡ length start
   pub list : take (half + j) sums ≡ take half start ++ group ring (take j start)
-
--- before the first turn
-pub doubling_none : (start : List ℕ) (half ring : ℕ) → half + half ≤ length start → Doubling start half ring start 0
-doubling_none start half ring f =
-    record { few = f; long = refl; list = ap (λ k. take k start) {x = half + 0} {y = half} (omega arith) ∙ sym (append-nil (take half start)) }
 
 module _ {start : List ℕ} {half ring : ℕ} {sums : List ℕ} {j : ℕ} (s : Doubling start half ring sums j) where
   -- an old set is where it was
@@ -58,10 +53,6 @@ module _ {start : List ℕ} {half ring : ℕ} {sums : List ℕ} {j : ℕ} (s : D
           ap (λ y. group ring (take j start) ++ y ∷ []) (q ∙ ap (bit_xor ring) (e ∙ old_kept h))
           ∙ sym (map-append (bit_xor ring) (take j start) (get_or start j 0 ∷ []))
           ∙ ap (group ring) (sym (take-suc start j 0 (omega (arith, s.few))) ∙ ap (λ k. take k start) (sym (add-one j)))
-
-  -- after the last turn
-  pub doubling_all : j ≡ half → Doubled start half ring sums
-  doubling_all e = record { long = s.long; list = subst (λ k. take (half + k) sums ≡ take half start ++ group ring (take k start)) e s.list }
 
 -- ---- a sum is tested against the rings found
 

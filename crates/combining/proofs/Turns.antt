@@ -16,7 +16,7 @@ use Rattle.sets.proofs.Size.{size-sub}
 use Rattle.definitions.specs.Search.{count, set_of, listed, picked}
 use Rattle.definitions.proofs.Tests.{and_both}
 use Rattle.definitions.proofs.Lists.{listed-take, length-listed, has-set_of, size-set_of, length-keep}
-use Rattle.definitions.proofs.Passing.{Passed, passed_next, passed_first, passed_more, passed_all}
+use Rattle.definitions.proofs.Passing.{Passed, passed_next, passed_first, passed_more}
 use Rattle.cycles.proofs.Sums.{take-listed}
 use Rattle.lent.specs.Appended.{between, Room, Appended}
 use Rattle.lent.proofs.Appending.{appended_none, appended_as, appended_more}
@@ -225,7 +225,3 @@ module _ {rings : List ℕ} {s : ℕ} {start : List ℕ} {n : ℕ} {sums : List 
           where
             more : upto rings s q ≡ before ++ ring_at rings i ∷ []
             more = passed_more t.passed h next (ring_at rings)
-
-  -- after the last all are combined
-  pub turned_all : room ≤ i → Appended start n (combined (picked rings s)) found r
-  turned_all h = appended_as (ap combined (passed_all (ring_at rings) t.passed h)) t.appended
