@@ -2,7 +2,7 @@
 // kept are summed with it. What is left is kept, at its lowest bond.
 #![tactic(auto)]
 
-ghost use Rattle.std.specs.Prelude.{◌≡◌, ◌<◌, length, take};
+ghost use Rattle.std.specs.Prelude.{◌<◌};
 ghost use Rattle.sets.specs.Bond.{bits, room};
 ghost use Rattle.sets.specs.Lists.{sets_in};
 ghost use Rattle.spans.specs.Elimination.{Rows, Remainder};
@@ -10,6 +10,7 @@ ghost use Rattle.choosing.specs.Elimination.{Eliminated, Stepped, Choosable, Sel
 
 use answers::BASIS_WORDS;
 use sets::BondSet;
+use sets::list::sets_in;
 
 // What is left of a ring when the set kept at its lowest bond is summed with it, as long as there is one.
 fn left_of(kept: &[u64; BASIS_WORDS], ring: BondSet) -> BondSet
@@ -44,21 +45,19 @@ fn take_new(kept: &mut [u64; BASIS_WORDS], taken: &mut [u64], count: usize, ring
     count
 }
 
-// What is taken of the first n sets of a list, which are sums of as many basis rings as are wanted: when so many are taken, the rest
-// are sums of them.
-pub fn smallest_of(found: &[u64], n: usize, want: usize, taken: &mut [u64]) -> usize
-    requires { Choosable (sets_in found.now) n want (sets_in taken.old) }
-    ensures { Selected (take n (sets_in found.now)) (sets_in taken.old) (sets_in taken.new) result }
+// What is taken of the sets of a list, which are sums of as many basis rings as are wanted: when so many are taken, the rest are sums of
+// them.
+pub fn smallest_of(found: &[u64], want: usize, taken: &mut [u64]) -> usize
+    requires { Choosable (sets_in found.now) want (sets_in taken.old) }
+    ensures { Selected (sets_in found.now) (sets_in taken.old) (sets_in taken.new) result }
 {
     let mut kept = [0u64; BASIS_WORDS];
     let mut count: usize = 0;
-    let mut i: usize = 0;
-    while i < n {
+    for i in 0..sets_in(found) {
         if count == want {
             return count;
         }
         count = take_new(&mut kept, taken, count, BondSet::at(found, i));
-        i += 1;
     }
     count
 }

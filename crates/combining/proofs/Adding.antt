@@ -1,16 +1,20 @@
 -- The sums of a group are gone through one by one, and those that pass the test follow the rings found. Assumes nothing.
-use mathlib.Core.Path.{◌≡◌, sym, ap, subst⁻¹, ◌∙◌}
+use mathlib.Core.Path.{◌≡◌, sym, ap, ap₂, subst⁻¹, ◌∙◌}
 use mathlib.Core.Bool.{Bool, true, false}
 use mathlib.Core.List.{List, [], ◌∷◌, ◌++◌}
-use Prim.Native.Nat.{ℕ, ◌+◌, ◌<◌, ◌≤◌}
-use native.Mathlib.Nat.{le_antisymm}
+use Prim.Native.Nat.{ℕ, ◌+◌, ◌-◌, ◌*◌, ◌<◌, ◌≤◌}
+use native.Mathlib.Numerals.{add-one}
 use native.Mathlib.Omega.{arith}
-use lib.ListN.{length, get_or, set, length-append}
+use lib.ListN.{length, take, drop, get_or, set, length-append, length-drop, take-append-drop}
+use lib.Seq.{take-suc}
+use Rattle.std.proofs.lemmas.List.{drop-take}
+use Rattle.sets.specs.Lists.{sets_in, words, words_of}
+use Rattle.sets.proofs.Lists.{sets-drop, sets-take, words_are, words-between}
 use Rattle.definitions.specs.Search.{keep}
 use Rattle.definitions.proofs.Lists.{keep-nil, keep-take, keep_skip, keep_append}
 use Rattle.lent.specs.Appended.{between, Room, Appended}
 use Rattle.lent.proofs.Appending.{appended_none, appended_byte, appended_as, appended_more, appended_length}
-use Rattle.lent.proofs.Between.{between_none, between-one, between_split, appended_kept}
+use Rattle.lent.proofs.Between.{appended_kept}
 use Rattle.combining.specs.Gibbs.{clear?, rings_among}
 
 -- where there is room for all, there is room for those that follow the first of them
@@ -18,55 +22,59 @@ pub appended_room : {new start : List ℕ} {n : ℕ} {mid : List ℕ} {m : ℕ} 
     → length new + length more ≤ length all → Room more mid m
 appended_room more all a o h = omega (arith, a.end, appended_length (omega arith) a (omega (arith, a.end)))
 
--- ---- the sum at place j follows where it passes a test
+-- the sets of the part of a list that code lends from one place up to another
+pub sets_between : (from to : ℕ) (ws : List ℕ) → from ≤ to → to ≤ length (sets_in ws)
+    → sets_in (take (to * words - from * words) (drop (from * words) ws)) ≡ between from to (sets_in ws)
+sets_between from to ws h few =
+    ap₂ (λ m k. sets_in (take m (drop k ws))) (ap₂ ◌-◌ (sym (words_are to)) (sym (words_are from)) ∙ words-between from to) (sym (words_are from))
+    ∙ sets-take (to - from) (drop (words_of from) ws) (rw rest (omega (arith, length-drop from (sets_in ws))))
+    ∙ ap (take (to - from)) rest
+    ∙ sym (drop-take from (to - from) (sets_in ws))
+    ∙ ap (λ k. drop from (take k (sets_in ws))) (let e : from + (to - from) ≡ to = omega arith in e)
+  where
+    rest : sets_in (drop (words_of from) ws) ≡ drop from (sets_in ws)
+    rest = sets-drop from ws (omega arith)
 
-module _ (p : ℕ → Bool) (sums : List ℕ) {j : ℕ} (h : j < length sums) {w : ℕ} {b : Bool} (is : w ≡ get_or sums j 0) (test : b ≡ p w) where
-  -- it stands there alone
-  alone : between j (j + 1) sums ≡ w ∷ []
-  alone = between-one j sums h ∙ ap (λ x. x ∷ []) (sym is)
+-- ---- a sum follows where none of the rings from one place up to another lies inside it
+
+module _ (from to : ℕ) (ws : List ℕ) (s : ℕ) {n : ℕ} {b : Bool}
+    (o : (from ≤ to) × (to ≤ n) × Room (rings_among (between from to (sets_in ws)) (s ∷ [])) (sets_in ws) n)
+    (test : b ≡ clear? (sets_in (take (to * words - from * words) (drop (from * words) ws))) s) where
+  abbrev p : ℕ → Bool
+  p = clear? (between from to (sets_in ws))
+
+  -- the test is of these rings
+  passes : b ≡ p s
+  passes = test ∙ ap (λ l. clear? l s) (sets_between from to ws o.0 (omega (arith, o.1, o.2)))
 
   -- where it passes it is kept
-  kept : b ≡ true → keep p (between j (j + 1) sums) ≡ w ∷ []
-  kept e = ap (keep p) alone ∙ keep-take p w [] (sym test ∙ e) ∙ ap (λ l. w ∷ l) (keep-nil p)
+  kept : b ≡ true → keep p (s ∷ []) ≡ s ∷ []
+  kept e = keep-take p s [] (sym passes ∙ e) ∙ ap (λ l. s ∷ l) (keep-nil p)
 
-  module _ (found : List ℕ) {n : ℕ} where
-    -- so there is room for it
-    pub sum_room : b ≡ true → Room (keep p (between j (j + 1) sums)) found n → n < length found
-    sum_room e o = omega (arith, ap length (kept e))
+  -- so there is room for it
+  pub sum_room : b ≡ true → n < length (sets_in ws)
+  sum_room e = omega (arith, o.2, ap length (kept e))
 
-    -- and it follows
-    pub sum_taken : {end : List ℕ} → b ≡ true → Room (keep p (between j (j + 1) sums)) found n → end ≡ set found n w
-        → Appended found n (keep p (between j (j + 1) sums)) end (n + 1)
-    sum_taken e o put = rw put (appended_as (sym (kept e)) (appended_byte found n w (sum_room e o)))
+  -- and it follows
+  pub sum_taken : {end : List ℕ} → b ≡ true → end ≡ set (sets_in ws) n s → Appended (sets_in ws) n (keep p (s ∷ [])) end (n + 1)
+  sum_taken e put = rw put (appended_as (sym (kept e)) (appended_byte (sets_in ws) n s (sum_room e)))
 
-    -- where it does not pass nothing follows
-    pub sum_left : b ≡ false → Appended found n (keep p (between j (j + 1) sums)) found n
-    sum_left e = appended_as (sym (ap (keep p) alone ∙ keep_skip p w [] (sym test ∙ e) ∙ keep-nil p)) (appended_none found n)
+  -- where it does not pass nothing follows
+  pub sum_left : b ≡ false → Appended (sets_in ws) n (keep p (s ∷ [])) (sets_in ws) n
+  sum_left e = appended_as (sym (keep_skip p s [] (sym passes ∙ e) ∙ keep-nil p)) (appended_none (sets_in ws) n)
 
--- ---- the loop over a group: those of its sums below place j that are rings follow the rings found before it
+-- ---- the loop over a group: those of its first j sums that are rings follow the rings found before it
 
 -- a sum is a ring where none of the rings found before lies inside it
-pub record Adding (sums : List ℕ) (half : ℕ) (start : List ℕ) (from n : ℕ) (found : List ℕ) (count j : ℕ) : Type 0 where
-  pub few : half + half ≤ length sums
-  pub lent : Room (rings_among (between from n start) (between half (half + half) sums)) start n
-  pub after : half ≤ j
-  pub within : j ≤ half + half
-  pub appended : Appended start n (rings_among (between from n start) (between half j sums)) found count
+pub record Adding (sums start : List ℕ) (from n : ℕ) (found : List ℕ) (count j : ℕ) : Type 0 where
+  pub lent : Room (rings_among (between from n start) sums) start n
+  pub appended : Appended start n (rings_among (between from n start) (take j sums)) found count
 
 -- before the first sum
-pub adding_none : {sums : List ℕ} {half : ℕ} {start : List ℕ} {from n : ℕ} → half + half ≤ length sums
-    → Room (rings_among (between from n start) (between half (half + half) sums)) start n → Adding sums half start from n start n half
-adding_none {sums} {half} {start} {from} {n} f o = record {
-  few = f;
-  lent = o;
-  after = omega arith;
-  within = omega arith;
-  appended =
-      appended_as (sym (ap (rings_among (between from n start)) (between_none half sums) ∙ keep-nil (clear? (between from n start))))
-      (appended_none start n);
-}
+pub adding_none : {sums start : List ℕ} {from n : ℕ} → Room (rings_among (between from n start) sums) start n → Adding sums start from n start n 0
+adding_none {sums} {start} {from} {n} o = record { lent = o; appended = appended_as (sym (keep-nil (clear? (between from n start)))) (appended_none start n) }
 
-module _ {sums : List ℕ} {half : ℕ} {start : List ℕ} {from n : ℕ} {found : List ℕ} {count j : ℕ} (a : Adding sums half start from n found count j) where
+module _ {sums start : List ℕ} {from n : ℕ} {found : List ℕ} {count j : ℕ} (a : Adding sums start from n found count j) where
   -- the rings found before
   abbrev olds : List ℕ
   olds = between from n start
@@ -75,43 +83,32 @@ module _ {sums : List ℕ} {half : ℕ} {start : List ℕ} {from n : ℕ} {found
   same : between from n found ≡ olds
   same = appended_kept (omega (arith, a.lent)) a.appended from n (omega arith)
 
-  -- the rings up to a sum, and those from it on
-  parted : (i k : ℕ) → half ≤ i → i ≤ k → k ≤ half + half → rings_among olds (between half i sums) ++ rings_among olds (between i k sums) ≡ rings_among olds (between half k sums)
-  parted i k f l m =
-      sym (keep_append (clear? olds) (between half i sums) (between i k sums))
-      ∙ ap (rings_among olds) (between_split half i k sums f l (omega (arith, a.few)))
-
-  module _ (h : j < half + half) where
+  module _ (h : j < length sums) {w : ℕ} (is : w ≡ get_or sums j 0) where
     -- one sum more
-    next : rings_among olds (between half j sums) ++ rings_among olds (between j (j + 1) sums) ≡ rings_among olds (between half (j + 1) sums)
-    next = parted j (j + 1) a.after (omega arith) (omega arith)
+    next : rings_among olds (take j sums) ++ rings_among olds (w ∷ []) ≡ rings_among olds (take (j + 1) sums)
+    next =
+        sym (keep_append (clear? olds) (take j sums) (w ∷ []))
+        ∙ ap (rings_among olds) (rw (add-one, is) (sym (take-suc sums j 0 h)))
 
     -- there is room for the next
-    pub adding_room : Room (rings_among (between from n found) (between j (j + 1) sums)) found count
+    pub adding_room : Room (rings_among (between from n found) (w ∷ [])) found count
     adding_room =
-        subst⁻¹ (λ l. Room (rings_among l (between j (j + 1) sums)) found count) same
-        (appended_room (rings_among olds (between j (j + 1) sums)) (rings_among olds (between half (half + half) sums)) a.appended a.lent
+        subst⁻¹ (λ l. Room (rings_among l (w ∷ [])) found count) same
+        (appended_room (rings_among olds (w ∷ [])) (rings_among olds sums) a.appended a.lent
         (omega (
           arith,
           ap length next,
-          length-append (rings_among olds (between half j sums)) (rings_among olds (between j (j + 1) sums)),
-          ap length (parted (j + 1) (half + half) (omega (arith, a.after)) (omega arith) (omega arith)),
-          length-append (rings_among olds (between half (j + 1) sums)) (rings_among olds (between (j + 1) (half + half) sums)),
+          length-append (rings_among olds (take j sums)) (rings_among olds (w ∷ [])),
+          ap (λ l. length (rings_among olds l)) (take-append-drop (j + 1) sums),
+          ap length (keep_append (clear? olds) (take (j + 1) sums) (drop (j + 1) sums)),
+          length-append (rings_among olds (take (j + 1) sums)) (rings_among olds (drop (j + 1) sums)),
         )))
 
     -- the next
-    pub adding_more : {end : List ℕ} {r : ℕ} → Appended found count (rings_among (between from n found) (between j (j + 1) sums)) end r
-        → Adding sums half start from n end r (j + 1)
+    pub adding_more : {end : List ℕ} {r : ℕ} → Appended found count (rings_among (between from n found) (w ∷ [])) end r → Adding sums start from n end r (j + 1)
     adding_more {end} {r} b = record {
-      few = a.few;
       lent = a.lent;
-      after = omega (arith, a.after);
-      within = omega arith;
       appended =
           appended_as next
-          (appended_more (omega (arith, a.lent)) a.appended (appended_as (ap (λ l. rings_among l (between j (j + 1) sums)) same) b));
+          (appended_more (omega (arith, a.lent)) a.appended (appended_as (ap (λ l. rings_among l (w ∷ [])) same) b));
     }
-
-  -- after the last sum
-  pub adding_all : half + half ≤ j → Appended start n (rings_among olds (between half (half + half) sums)) found count
-  adding_all h = appended_as (ap (λ k. rings_among olds (between half k sums)) (le_antisymm a.within h)) a.appended

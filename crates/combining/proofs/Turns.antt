@@ -16,7 +16,7 @@ use Rattle.sets.proofs.Size.{size-sub}
 use Rattle.definitions.specs.Search.{count, set_of, listed, picked}
 use Rattle.definitions.proofs.Tests.{and_both}
 use Rattle.definitions.proofs.Lists.{listed-take, length-listed, has-set_of, size-set_of, length-keep}
-use Rattle.definitions.proofs.Passing.{Passed, passed_next, passed_first, passed_more, passed_all}
+use Rattle.definitions.proofs.Passing.{Passed, passed_next, passed_first, passed_more}
 use Rattle.cycles.proofs.Sums.{take-listed}
 use Rattle.lent.specs.Appended.{between, Room, Appended}
 use Rattle.lent.proofs.Appending.{appended_none, appended_as, appended_more}
@@ -172,59 +172,56 @@ module _ {rings : List ℕ} {s : ℕ} {start : List ℕ} {n : ℕ} {sums : List 
         )
 
     module _ {sums' : List ℕ} {ring : ℕ} (is : ring ≡ get_or rings i 0) (made : Doubled sums half ring sums') where
-      -- the rings that are found in its group
-      abbrev new : List ℕ
-      new = rings_among (between n r found) (between half (half + half) sums')
-
-      -- it is there
+      -- the group is there
       pub turned_held : half + half ≤ length sums'
       turned_held = omega (arith, turned_few, made.long)
 
-      -- the group stands after the old sets
+      -- and stands after the old sets
       its_group : between half (half + half) sums' ≡ group (ring_at rings i) (sums_from (0 ∷ []) before)
       its_group =
           ap (drop half) made.list
           ∙ drop_at (take half sums) (group ring (take half sums)) half (length-take-le half sums (omega (arith, turned_few)))
           ∙ ap₂ group is t.list
 
-      -- what is found with it
-      found-with : combined before ++ new ≡ combined (before ++ ring_at rings i ∷ [])
-      found-with =
-          ap₂ (λ l g. combined before ++ rings_among l g) (appended_new (omega (arith, t.lent)) t.appended) its_group
-          ∙ sym (rings_snoc (0 ∷ []) [] before (ring_at rings i))
+      module _ {sum : List ℕ} (part : sum ≡ between half (half + half) sums') where
+        -- the rings that are found in it
+        abbrev new : List ℕ
+        new = rings_among (between n r found) sum
 
-      -- there is room for what is found in it
-      pub turned_room : Room new found r
-      turned_room =
-          let with = before ++ ring_at rings i ∷ [] in
-          appended_room new (combined (picked rings s)) t.appended t.lent
-          (omega (
-            arith,
-            ap length found-with,
-            length-append (combined before) new,
-            ap (λ l. length (combined l)) parted,
-            ap length (rings-append (0 ∷ []) [] with after),
-            length-append (combined with) (rings_from (sums_from (0 ∷ []) with) (combined with) after),
-          ))
+        -- what is found with it
+        found-with : combined before ++ new ≡ combined (before ++ ring_at rings i ∷ [])
+        found-with =
+            ap₂ (λ l g. combined before ++ rings_among l g) (appended_new (omega (arith, t.lent)) t.appended) (part ∙ its_group)
+            ∙ sym (rings_snoc (0 ∷ []) [] before (ring_at rings i))
 
-      -- the next basis ring
-      pub turned_more : {end : List ℕ} {r' q : ℕ} → Appended found r new end r' → IsNext room s (i + 1) q → Turned rings s start n sums' (half + half) end r' q
-      turned_more {end} {r'} {q} a next =
-          record {
-            small = omega (arith, t.small, made.long);
-            lent = t.lent;
-            passed = passed_next next;
-            power =
-                ap₂ ◌+◌ t.power t.power
-                ∙ sym (two-pow-succ (length before))
-                ∙ ap (λ k. 2 ^ k) (sym (ap length more ∙ length-append before (ring_at rings i ∷ []) ∙ add-one (length before)));
-            list = made.list ∙ ap₂ (λ x l. l ++ group x l) is t.list ∙ sym (sums_snoc (0 ∷ []) before (ring_at rings i)) ∙ ap (sums_from (0 ∷ [])) (sym more);
-            appended = appended_as (found-with ∙ ap combined (sym more)) (appended_more (omega (arith, t.lent)) t.appended a);
-          }
-        where
-          more : upto rings s q ≡ before ++ ring_at rings i ∷ []
-          more = passed_more t.passed h next (ring_at rings)
+        -- there is room for what is found in it
+        pub turned_room : Room new found r
+        turned_room =
+            let with = before ++ ring_at rings i ∷ [] in
+            appended_room new (combined (picked rings s)) t.appended t.lent
+            (omega (
+              arith,
+              ap length found-with,
+              length-append (combined before) new,
+              ap (λ l. length (combined l)) parted,
+              ap length (rings-append (0 ∷ []) [] with after),
+              length-append (combined with) (rings_from (sums_from (0 ∷ []) with) (combined with) after),
+            ))
 
-  -- after the last all are combined
-  pub turned_all : room ≤ i → Appended start n (combined (picked rings s)) found r
-  turned_all h = appended_as (ap combined (passed_all (ring_at rings) t.passed h)) t.appended
+        -- the next basis ring
+        pub turned_more : {end : List ℕ} {r' q : ℕ} → Appended found r new end r' → IsNext room s (i + 1) q → Turned rings s start n sums' (half + half) end r' q
+        turned_more {end} {r'} {q} a next =
+            record {
+              small = omega (arith, t.small, made.long);
+              lent = t.lent;
+              passed = passed_next next;
+              power =
+                  ap₂ ◌+◌ t.power t.power
+                  ∙ sym (two-pow-succ (length before))
+                  ∙ ap (λ k. 2 ^ k) (sym (ap length more ∙ length-append before (ring_at rings i ∷ []) ∙ add-one (length before)));
+              list = made.list ∙ ap₂ (λ x l. l ++ group x l) is t.list ∙ sym (sums_snoc (0 ∷ []) before (ring_at rings i)) ∙ ap (sums_from (0 ∷ [])) (sym more);
+              appended = appended_as (found-with ∙ ap combined (sym more)) (appended_more (omega (arith, t.lent)) t.appended a);
+            }
+          where
+            more : upto rings s q ≡ before ++ ring_at rings i ∷ []
+            more = passed_more t.passed h next (ring_at rings)

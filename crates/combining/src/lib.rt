@@ -3,7 +3,7 @@
 // it, since of two even sets that make up a sum one has not the closure bond of its basis ring, and in that one lies such a ring.
 #![tactic(auto)]
 
-ghost use Rattle.std.specs.Prelude.{◌≡◌, ◌+◌, ◌^◌, ◌<◌, ◌≤◌, length};
+ghost use Rattle.std.specs.Prelude.{◌≡◌, [], ◌∷◌, ◌+◌, ◌^◌, ◌≤◌, length};
 ghost use Rattle.sets.specs.Bits as set;
 ghost use Rattle.sets.specs.Bond.{bits};
 ghost use Rattle.sets.specs.Ring as superset;
@@ -13,7 +13,8 @@ ghost use Rattle.lent.specs.Appended.{Room, Appended, between};
 ghost use Rattle.combining.specs.Gibbs.{clear?, rings_among, combined, Doubled};
 
 use answers::BASIS_WORDS;
-use sets::{BondSet, RingSet};
+use sets::list::sets_in;
+use sets::{BondSet, RingSet, WORDS};
 
 // The old sets are followed by the group of a basis ring.
 fn double(sums: &mut [u64], half: usize, ring: BondSet)
@@ -21,42 +22,37 @@ fn double(sums: &mut [u64], half: usize, ring: BondSet)
     ensures long { length sums.new ≡ length sums.old }
     ensures sums { Doubled (sets_in sums.old) half (bits ring) (sets_in sums.new) }
 {
-    let mut j: usize = 0;
-    while j < half {
+    for j in 0..half {
         ring.sum(BondSet::at(sums, j)).put_at(sums, half + j);
-        j += 1;
     }
 }
 
-// Does none of the rings found from one place up to another lie inside a sum? This is most of a cage's time, and the time goes into
-// branches: two rings are held against the sum in a turn.
-fn is_ring(found: &[u64], from: usize, to: usize, sum: BondSet) -> bool
-    requires { (from ≤ to) × (to ≤ length (sets_in found.now)) }
-    ensures { result ≡ clear? (between from to (sets_in found.now)) (bits sum) }
+// Does none of these rings lie inside a sum? This is most of a cage's time, and the time goes into branches: two rings are held against the
+// sum in a turn.
+fn is_ring(rings: &[u64], sum: BondSet) -> bool
+    ensures { result ≡ clear? (sets_in rings.now) (bits sum) }
 {
-    let mut i = from;
-    while to - i > 1 {
-        let one = BondSet::at(found, i).inside(sum);
-        let next = BondSet::at(found, i + 1).inside(sum);
+    let pairs = sets_in(rings) / 2;
+    for pair in 0..pairs {
+        let one = BondSet::at(rings, 2 * pair).inside(sum);
+        let next = BondSet::at(rings, 2 * pair + 1).inside(sum);
         if one | next {
             return false;
         }
-        i += 2;
     }
-    if i < to {
-        return !BondSet::at(found, i).inside(sum);
+    if 2 * pairs < sets_in(rings) {
+        return !BondSet::at(rings, 2 * pairs).inside(sum);
     }
     true
 }
 
-// The sum at a place follows the rings found where it is a ring, which those from one place up to another tell.
-fn add_sum(sums: &[u64], j: usize, found: &mut [u64], from: usize, to: usize, n: usize) -> usize
-    requires { (j < length (sets_in sums.now)) × (from ≤ to) × (to ≤ n) × (Room (rings_among (between from to (sets_in found.old)) (between j (j + 1) (sets_in sums.now))) (sets_in found.old) n) }
+// A sum follows the rings found where it is a ring, which those from one place up to another tell.
+fn add_sum(sum: BondSet, found: &mut [u64], from: usize, to: usize, n: usize) -> usize
+    requires { (from ≤ to) × (to ≤ n) × (Room (rings_among (between from to (sets_in found.old)) (bits sum ∷ [])) (sets_in found.old) n) }
     ensures long { length found.new ≡ length found.old }
-    ensures added { Appended (sets_in found.old) n (rings_among (between from to (sets_in found.old)) (between j (j + 1) (sets_in sums.now))) (sets_in found.new) result }
+    ensures added { Appended (sets_in found.old) n (rings_among (between from to (sets_in found.old)) (bits sum ∷ [])) (sets_in found.new) result }
 {
-    let sum = BondSet::at(sums, j);
-    if is_ring(found, from, to, sum) {
+    if is_ring(&found[from * WORDS..to * WORDS], sum) {
         sum.put_at(found, n);
         return n + 1;
     }
@@ -64,16 +60,14 @@ fn add_sum(sums: &[u64], j: usize, found: &mut [u64], from: usize, to: usize, n:
 }
 
 // The rings of a group, which are told by the rings found before it from one place on, follow these.
-fn add_group(sums: &[u64], half: usize, found: &mut [u64], from: usize, n: usize) -> usize
-    requires { (half + half ≤ length (sets_in sums.now)) × (from ≤ n) × (Room (rings_among (between from n (sets_in found.old)) (between half (half + half) (sets_in sums.now))) (sets_in found.old) n) }
+fn add_group(group: &[u64], found: &mut [u64], from: usize, n: usize) -> usize
+    requires { (from ≤ n) × (Room (rings_among (between from n (sets_in found.old)) (sets_in group.now)) (sets_in found.old) n) }
     ensures long { length found.new ≡ length found.old }
-    ensures added { Appended (sets_in found.old) n (rings_among (between from n (sets_in found.old)) (between half (half + half) (sets_in sums.now))) (sets_in found.new) result }
+    ensures added { Appended (sets_in found.old) n (rings_among (between from n (sets_in found.old)) (sets_in group.now)) (sets_in found.new) result }
 {
     let mut count = n;
-    let mut j = half;
-    while j < half + half {
-        count = add_sum(sums, j, found, from, n, count);
-        j += 1;
+    for j in 0..sets_in(group) {
+        count = add_sum(BondSet::at(group, j), found, from, n, count);
     }
     count
 }
@@ -97,7 +91,7 @@ pub fn add_assembly(
     let mut i = members.next(0);
     while i <= RingSet::LAST {
         double(sums, half, BondSet::at(rings, i));
-        count = add_group(sums, half, found, n, count);
+        count = add_group(&sums[half * WORDS..(half + half) * WORDS], found, n, count);
         half = half + half;
         i = members.next(i + 1);
     }

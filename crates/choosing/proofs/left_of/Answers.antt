@@ -3,9 +3,8 @@ use native.Mathlib.Omega.{arith}
 use Rattle.sets.specs.Bond.{room}
 use Rattle.sets.proofs.Lists.{sets-whole}
 use Rattle.sets.proofs.Machine.{bond-lt}
-use Rattle.sets.proofs.Upto.{next_rises}
 use Rattle.definitions.specs.Table.{max_bonds}
-use Rattle.spans.proofs.Elimination.{reducing_start, reducing_step, reducing_stop, reducing_end}
+use Rattle.spans.proofs.Elimination.{reducing_start, reducing_step, reducing_end}
 use borrow.Author.Rules.{rules}
 use Rattle.choosing.proofs.left_of.Goals as goal
 
@@ -14,12 +13,6 @@ loop-k-init c = reducing_start room _ _ _ (bond-lt c.args.ring (search rules)) c
 
 pub at-other-requires : goal.at-other-requires
 at-other-requires c = omega (arith, sets-whole max_bonds c.args.kept.now (search rules))
-
-pub returns-then-is_empty : goal.returns-then-is_empty
-returns-then-is_empty c = reducing_stop c.loop-k.invariant (omega arith) c.at-other.ensures c.is_empty.ensures c.if-is_empty.true
-
-pub loop-k-smaller : goal.loop-k-smaller
-loop-k-smaller c = omega (arith, next_rises room _ _ _ (search rules) c.next-k-in-loop-k.ensures)
 
 pub loop-k-preserved : goal.loop-k-preserved
 loop-k-preserved c = reducing_step c.loop-k.invariant (omega arith) c.at-other.ensures c.is_empty.ensures c.requires c.if-is_empty.false

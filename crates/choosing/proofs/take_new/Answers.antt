@@ -5,15 +5,6 @@ use Rattle.choosing.proofs.Selecting.{step_new, step_old}
 use borrow.Author.Rules.{rules}
 use Rattle.choosing.proofs.take_new.Goals as goal
 
-pub left_of-rest-requires : goal.left_of-rest-requires
-left_of-rest-requires c = c.requires.0.sums.rows
-
-pub put_at-requires : goal.put_at-requires
-put_at-requires c = omega (arith, c.requires.0.long)
-
-pub put_at-requires-then-k-le-LAST : goal.put_at-requires-then-k-le-LAST
-put_at-requires-then-k-le-LAST c = let pre = c.requires in omega (arith, pre.0.lent, pre.1)
-
 pub returns-then-k-le-LAST : goal.returns-then-k-le-LAST
 returns-then-k-le-LAST c = let pre = c.requires in
     step_new pre.0 c.left_of-rest.ensures c.next-k.ensures pre.1 (omega arith) c.put_at.ensures.sets c.put_at-then-k-le-LAST.ensures.sets
