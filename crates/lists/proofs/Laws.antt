@@ -6,7 +6,6 @@ use native.Mathlib.Omega.{arith}
 use lib.ListN.{length, get_or, take}
 use lib.Pow.{pow_mono}
 use Rattle.sets.specs.Bits.{size}
-use Rattle.sets.specs.Bond.{room}
 use Rattle.sets.specs.Lists.{sets_in, words}
 use Rattle.sets.proofs.Lists.{sets-length}
 use Rattle.definitions.specs.Search.{sort, gather}
@@ -20,7 +19,7 @@ use Rattle.lent.proofs.Between.{appended_take}
 use Rattle.answers.proofs.Answers.{sets-accepted}
 use Rattle.basis.specs.Held.{members_of}
 use Rattle.combining.specs.Gibbs.{found_at, found_in}
-use Rattle.choosing.specs.Elimination.{Spanned, Choosable, Selected}
+use Rattle.choosing.specs.Elimination.{Spanned}
 use Rattle.perception.specs.Perceiving.{Perceives}
 use Rattle.perception.specs.declared.Perceived.{Perceived}
 use Rattle.perception.proofs.Perceiving.{all_found-few, perceived, perceived_small, perceived_found, perceived_room, perceived_most}
@@ -50,19 +49,9 @@ listed-ordered g h e = record { few = h; list = e ∙ ap (sort before) (appended
 
 -- ---- the rings in order
 
-module _ {rings sets : List ℕ} {r : ℕ} (o : Ordered rings sets r) where
-  -- where each is a sum of as many basis rings as are wanted, a smallest basis can be chosen from them
-  pub ordered_choosable : {n : ℕ} {taken : List ℕ} → n ≤ room → Spanned n rings → length taken ≡ room → Choosable sets r n taken
-  ordered_choosable few spanned t = record {
-    within = o.few;
-    lent = t;
-    few = few;
-    spanned = (spanned.0, spanned.1, λ x i. spanned.2 x ((sort_in before rings x).0 (rw o.list at i)));
-  }
-
-  -- what is chosen from them is taken of them
-  pub ordered-chosen : {lent taken : List ℕ} {k : ℕ} → Selected (take r sets) lent taken k → take k taken ≡ taking [] (sort before rings)
-  ordered-chosen chosen = chosen.list ∙ ap (taking []) o.list
+-- as they are sums of so many basis rings, so are they in order
+pub spanned_sorted : {n : ℕ} {rings : List ℕ} → Spanned n rings → Spanned n (sort before rings)
+spanned_sorted {n} {rings} spanned = (spanned.0, spanned.1, λ x i. spanned.2 x ((sort_in before rings x).0 i))
 
 -- ---- what is worked out of an accepted table
 
