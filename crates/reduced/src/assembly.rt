@@ -22,11 +22,9 @@ fn write_members(rings: &[u64; BASIS_WORDS], members: RingSet, out: &mut [u64]) 
     ensures list { sets_in out.new ≡ over (picked (sets_in rings.now) (bits members)) (sets_in out.old) }
 {
     let mut n: usize = 0;
-    let mut i = members.next(0);
-    while i <= RingSet::LAST {
+    for i in members {
         BondSet::at(rings, i).put_at(out, n);
         n += 1;
-        i = members.next(i + 1);
     }
     n
 }

@@ -5,8 +5,10 @@
 mod bond;
 pub mod list;
 mod ring;
+mod rising;
 mod word;
 
 pub use bond::BondSet;
 pub use list::WORDS;
 pub use ring::RingSet;
+pub use rising::Rising;

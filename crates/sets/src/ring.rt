@@ -3,7 +3,9 @@ ghost use Rattle.std.specs.Prelude.{◌≡◌, ◌≤◌, min};
 ghost use Rattle.std.specs.Int.Bits.{bit_or, bit_xor};
 ghost use Rattle.sets.specs.Bits as spec;
 ghost use Rattle.sets.specs.Ring.{bits, room};
+ghost use Rattle.sets.specs.Rising.{rising, left};
 
+use super::rising::Rising;
 use super::word;
 
 #[derive(Clone, Copy)]
@@ -84,5 +86,18 @@ impl RingSet {
         ensures { spec.IsNext room (bits self) from result }
     {
         word::next(self.0, from)
+    }
+}
+
+// The rings of the set, the least first.
+impl IntoIterator for RingSet {
+    type Item = usize;
+
+    type IntoIter = Rising;
+
+    ghost into_iter_gives = { λ s it. left it ≡ rising room (bits s) };
+
+    fn into_iter(self) -> Rising {
+        Rising(self.0)
     }
 }
