@@ -1,5 +1,5 @@
 // Tagged fields: one byte tag, two bytes length, and the content.
-ghost use Rattle.std.specs.Prelude.{◌+◌, ◌≤◌, length, ◌∷◌};
+ghost use Rattle.std.specs.Prelude.{◌≡◌, ◌+◌, ◌≤◌, length, ◌∷◌};
 ghost use Rattle.definitions.specs.Label.{bytes_of, bytes_of_all, field};
 ghost use Rattle.lent.specs.Writes.{Fits, Writes};
 ghost use Rattle.fields.specs.Tags.{tag_byte};
@@ -26,6 +26,15 @@ pub enum Tag {
     Reduced = 0x20,
 }
 
+impl Tag {
+    // The byte that a field starts with.
+    fn byte(self) -> u8
+        ensures { result ≡ tag_byte self }
+    {
+        self as u8
+    }
+}
+
 // The bytes of a field's length.
 const LENGTH: usize = 2;
 
@@ -37,7 +46,7 @@ pub fn put_head(tag: Tag, content: usize, writer: &mut Writer)
     requires { writer.old.at + 3 ≤ length writer.old.out.now }
     ensures { Writes (tag_byte tag ∷ bytes_of 2 content) writer.old writer.new }
 {
-    put_tagged(tag as u8, LENGTH, content as u64, writer);
+    put_tagged(tag.byte(), LENGTH, content as u64, writer);
 }
 
 // A field of numbers, each in so many bytes.
