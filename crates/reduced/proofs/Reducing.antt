@@ -1,7 +1,7 @@
 -- What is picked of the basis rings by the sets of the assemblies, each reduced, is the reduced basis; what a Reduced holds. Assumes nothing.
-use mathlib.Core.Path.{◌≡◌, refl, sym, ap, ap₂, ◌∙◌}
+use mathlib.Core.Path.{◌≡◌, sym, ap, ap₂, ◌∙◌}
 use mathlib.Core.List.{List}
-use Prim.Native.Nat.{ℕ, ◌≤◌, ◌<◌}
+use Prim.Native.Nat.{ℕ, ◌≤◌}
 use native.Mathlib.Omega.{arith}
 use lib.ListN.{length, get_or, take, drop, replicate, length-append, length-replicate}
 use lib.Seq.{take-append_seam}
@@ -19,6 +19,7 @@ use Rattle.basis.specs.declared.assembly.Assemblies.{Assemblies}
 use Rattle.basis.specs.Held.{rings_of, Holds, members_of, AssembliesOf}
 use Rattle.basis.proofs.Holding.{held_assemblies, members-at, picked_all}
 use Rattle.reduced.specs.Picked.{picked_by}
+use Rattle.std.proofs.Common.{Ok}
 use Rattle.reduced.specs.Reduces.{Reduces}
 use Rattle.reduced.specs.declared.Reduced.{Reduced}
 use Rattle.reduced.proofs.Gathering.{gather-reduced-length}
@@ -47,31 +48,20 @@ module _ {M : Table} {b : Basis} {s : Assemblies} (basis : Holds M b) (parts : A
   picked-reduced = picked_all basis (held_assemblies basis parts) reduced
 
   -- an accepted table: the reduced basis is handed back
-  pub reduces_accepted : {n : ℕ} → n ≡ refusal M → n ≤ 0 → (blank ws : List ℕ) → sets_in blank ≡ replicate max_bonds 0
+  pub reduces_accepted : 0 ≡ refusal M → (blank ws : List ℕ) → sets_in blank ≡ replicate max_bonds 0
       → sets_in ws ≡ over (gather s.count (λ a. reduced (picked_by (sets_in b.rings) (members_of s) a))) (sets_in blank)
-      → Reduces M (record { number = 0; sets = ws; count = b.count })
-  reduces_accepted given h blank ws none list = record {
-    number = omega arith;
-    refused = λ no. absurd (no (omega arith));
-    accepted = λ z. (reduced-counted M basis.count, list ∙ ap₂ over picked-reduced none);
-  }
-
--- a refused table: no sets are handed back
-pub reduces_refused : {M : Table} {n : ℕ} → n ≡ refusal M → 0 < n → (ws : List ℕ) → sets_in ws ≡ replicate max_bonds 0 → Reduces M (record { number = n; sets = ws; count = 0 })
-reduces_refused given h ws none = record { number = given; refused = λ no. (refl, none); accepted = λ z. absurd (omega arith) }
+      → Reduces M (Ok (record { sets = ws; count = b.count }))
+  reduces_accepted given blank ws none list = record { number = given; count = reduced-counted M basis.count; sets = list ∙ ap₂ over picked-reduced none }
 
 -- ---- what is handed back of an accepted table
 
-module _ {M : Table} {r : Reduced} (h : Reduces M r) (ok : r.number ≤ 0) where
-  held : (r.count ≡ length (reduced_basis M)) × (sets_in r.sets ≡ over (reduced_basis M) (replicate max_bonds 0))
-  held = h.accepted (omega (arith, h.number))
-
+module _ {M : Table} {r : Reduced} (h : Reduces M (Ok r)) where
   -- the sets that are counted are there
   pub reduces_room : r.count ≤ length (sets_in r.sets)
   unfolding over
-  reduces_room = omega (arith, held.0, ap length held.1 ∙ length-append (reduced_basis M) (drop (length (reduced_basis M)) (replicate max_bonds 0)))
+  reduces_room = omega (arith, h.count, ap length h.sets ∙ length-append (reduced_basis M) (drop (length (reduced_basis M)) (replicate max_bonds 0)))
 
   -- and are the reduced basis
   pub reduces_sets : take r.count (sets_in r.sets) ≡ reduced_basis M
   unfolding over
-  reduces_sets = ap₂ take held.0 held.1 ∙ take-append_seam (reduced_basis M) (drop (length (reduced_basis M)) (replicate max_bonds 0))
+  reduces_sets = ap₂ take h.count h.sets ∙ take-append_seam (reduced_basis M) (drop (length (reduced_basis M)) (replicate max_bonds 0))
