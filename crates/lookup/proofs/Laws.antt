@@ -1,4 +1,4 @@
--- How `start` and `run` go on from one set to the next, how far they reach, and when the part that is found is empty. Assumes nothing.
+-- Where a search ends, how far `start` and `run` reach, and when the part that is found is empty. Assumes nothing.
 use Rattle.std.proofs.Common.{Option, Some, None, unwrap_or}
 use Rattle.std.specs.Option.{MatchOption}
 use Rattle.std.specs.List.{prefix_len}
@@ -51,19 +51,19 @@ module _ (n : ℕ) (l : List ℕ) where
   start-le = prefix_len-le-length _ l
 
   -- the run is no longer than the list
-  pub run-le : run n l ≤ length l
+  run-le : run n l ≤ length l
   unfolding run
   run-le = prefix_len-le-length _ l
 
   -- where a set has n bonds the run from the first such set is not empty
-  pub run-found : start n l < length l → 0 < run n (drop (start n l) l)
+  run-found : start n l < length l → 0 < run n (drop (start n l) l)
   unfolding start run
   run-found h =
       let here : eqb (size (get_or l (start n l) 0)) n ≡ true = not-false _ (prefix_len_stops (λ s. not (eqb (size s) n)) l 0 h) in
       omega (arith, prefix_len-drop_yes (λ s. eqb (size s) n) l (start n l) 0 h here)
 
   -- and where none has, there is none
-  pub run-none : length l ≤ start n l → run n (drop (start n l) l) ≡ 0
+  run-none : length l ≤ start n l → run n (drop (start n l) l) ≡ 0
   unfolding run
   run-none h = prefix_len-drop_all _ l (start n l) h
 

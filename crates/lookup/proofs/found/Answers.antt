@@ -7,12 +7,6 @@ use Rattle.lookup.proofs.found.Goals as goal
 pub run_end-end-requires : goal.run_end-end-requires
 run_end-end-requires c = omega (arith, c.run_start-start.ensures, start-le c.args.size (sets_in c.args.list.now))
 
-pub overflow_mul-result : goal.overflow_mul-result
-overflow_mul-result c = omega (arith, found-room _ _ c.run_start-start.ensures c.run_end-end.ensures)
-
-pub overflow_mul-result-2 : goal.overflow_mul-result-2
-overflow_mul-result-2 c = omega (arith, found-room _ _ c.run_start-start.ensures c.run_end-end.ensures)
-
 pub offset_bounds-list-start : goal.offset_bounds-list-start
 offset_bounds-list-start c = omega (arith, found-room _ _ c.run_start-start.ensures c.run_end-end.ensures)
 
