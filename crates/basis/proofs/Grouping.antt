@@ -3,7 +3,7 @@
 -- bond with a member is of the same assembly, so it was looked at, and is not left. Assumes nothing.
 use mathlib.Core.Path.{◌≡◌, refl, sym, ap, ◌∙◌}
 use mathlib.Core.Logic.{⊎_elim}
-use mathlib.Core.Bool.{Bool, true, false, ◌&&◌, ◌||◌, not, cond, and-false, or-true, true≢false}
+use mathlib.Core.Bool.{Bool, true, false, ◌&&◌, ◌||◌, not, cond, and-false, or-true}
 use mathlib.Core.List.{List}
 use Prim.Native.Nat.{ℕ, ◌+◌, ◌≤◌, ◌<◌}
 use native.Mathlib.Omega.{arith}
@@ -162,27 +162,11 @@ passing_all below l p = record { kept = p.kept; fewer = p.fewer; done = λ z j e
 
 -- ---- passes until one adds nothing
 
--- g is the group of the first ring alone and h the group now; where the last pass did not grow it the rings left are apart
-pub record Collecting (rs : List ℕ) (first : ℕ) (g h : Group) (grew : Bool) : Type 0 where
-  pub kept : (all : ℕ) → Grouped rs first all g → Grouped rs first all h
-  pub fewer : Sub h.left g.left
-  pub apart : grew ≡ false → Apart rs h
+module _ {rs : List ℕ} {g h : Group} (p : Pass rs g h) where
+  -- a pass that leaves as many rings has left all as they were
+  pub pass_apart : size h.left ≡ size g.left → Apart rs h
+  pass_apart e = p.done (sub_same h.left g.left p.fewer (omega arith))
 
-pub collecting_none : (rs : List ℕ) (first : ℕ) (g : Group) → Collecting rs first g g true
-collecting_none rs first g = record { kept = λ all q. q; fewer = λ j e. e; apart = λ e. absurd (true≢false e) }
-
--- a pass that leaves as many rings has left all as they were
-pub collecting_more : {rs : List ℕ} {first : ℕ} {g h h' : Group} {grew : Bool} {m n : ℕ} → Collecting rs first g h grew → Pass rs h h'
-    → n ≡ size h.left → m ≡ size h'.left → Collecting rs first g h' (ltb m n)
-collecting_more {h = h} {h' = h'} {m = m} {n = n} c p en em = record {
-  kept = λ all q. p.kept _ all (c.kept all q);
-  fewer = λ j e. c.fewer j (p.fewer j e);
-  apart = λ e. p.done (sub_same h'.left h.left p.fewer (omega (arith, size-sub h'.left h.left p.fewer, ltb-false m n e)));
-}
-
--- what is left to do falls: the rings left, and one pass more where the last grew the group
-pub collecting_less : {rs : List ℕ} {h h' : Group} {grew : Bool} {m n : ℕ} → grew ≡ true → Pass rs h h' → n ≡ size h.left → m ≡ size h'.left
-    → size h'.left + cond (ltb m n) 1 0 < size h.left + cond grew 1 0
-collecting_less {h = h} {h' = h'} {m = m} {n = n} t p en em =
-    let low = size-sub h'.left h.left p.fewer in
-    rw t (by (ltb m n) (λ e. rw e (omega (arith, ltb-true m n e))) (λ e. rw e (omega arith)))
+  -- any other leaves fewer
+  pub pass_falls : (size h.left ≡ size g.left → ⊥) → size h.left < size g.left
+  pass_falls ne = omega (arith, size-sub h.left g.left p.fewer)

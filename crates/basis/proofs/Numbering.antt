@@ -36,6 +36,7 @@ above true n x =
 
 -- the sets of the first n assemblies are found, and the rings of the others are left
 pub record Divided (rs : List ℕ) (sets : List RingSet) (n left : ℕ) : Type 0 where
+  pub few : length rs ≤ room
   pub long : length sets ≡ max_bonds
   pub low : n ≤ assembly_count rs
   pub found : (a : ℕ) → a < n → bits (get_or sets a no_rings) ≡ set_of (length rs) (λ i. eqb (number rs i) a)
@@ -45,6 +46,7 @@ pub record Divided (rs : List ℕ) (sets : List RingSet) (n left : ℕ) : Type 0
 -- at the start all rings are left
 pub divided_none : (rs : List ℕ) {sets : List RingSet} {left : ℕ} → length rs ≤ room → sets ≡ replicate max_bonds no_rings → left ≡ all_below (min (length rs) room) → Divided rs sets 0 left
 divided_none rs few e l = rw e (record {
+  few = few;
   long = length-replicate max_bonds no_rings;
   low = omega arith;
   found = λ a h. absurd (omega arith);
@@ -72,12 +74,12 @@ module _ {rs : List ℕ} {sets : List RingSet} {n left : ℕ} (d : Divided rs se
   left_below i h = (left-number i h).0
 
   -- where no ring is left all assemblies are found
-  pub divided_all : {first : ℕ} → length rs ≤ room → IsNext room left 0 first → room ≤ first → AssembliesOf rs (record { members = sets; count = n })
-  divided_all few next h =
+  pub divided_all : {first : ℕ} → IsNext room left 0 first → room ≤ first → AssembliesOf rs (record { members = sets; count = n })
+  divided_all next h =
       let e = number_all rs n d.low (λ j l. used j l (next.none j (omega arith) (omega arith))) in
       record { count = e; counted = omega (arith, assembly_count_lem rs, count-le (first? rs) (length rs)); members = λ a l. members-at sets a ∙ d.found a l; blank = λ a l. members-at sets a ∙ d.blank a l }
 
-  module _ {first : ℕ} (few : length rs ≤ room) (next : IsNext room left 0 first) (h : first < room) where
+  module _ {first : ℕ} (next : IsNext room left 0 first) (h : first < room) where
     -- the first ring left has the next number
     next_number : number rs first ≡ n
     next_number =
@@ -125,6 +127,7 @@ module _ {rs : List ℕ} {sets : List RingSet} {n left : ℕ} (d : Divided rs se
 
       pub divided_more : {x : RingSet} → bits x ≡ g.members → Divided rs (set sets n x) (n + 1) g.left
       divided_more {x} e = record {
+        few = d.few;
         long = simp length-set d.long;
         low = omega (arith, next_number, number_below rs first first_below);
         found = λ b l.

@@ -13,7 +13,7 @@ ghost use Rattle.basis.specs.Clusters.{group_of, joined_by, Grouped, Apart, Pass
 
 use answers::{BASIS_WORDS, MAX_BONDS};
 use sets::list::{sets_in, sets_up_to};
-use sets::{BondSet, RingSet};
+use sets::{BondSet, RingSet, WORDS};
 
 // The assemblies in order, each as the set of its basis rings: the first count sets.
 #[derive(Clone, Copy)]
@@ -47,13 +47,13 @@ impl Cluster {
     }
 
     // One pass over the rings left.
-    fn passed(self, rings: &[u64; BASIS_WORDS], count: usize) -> Cluster
-        requires { (count ≤ max_bonds) × ((i : ℕ) → has (ring_bits self.left) i ≡ true → i < count) }
-        ensures { Pass (take count (sets_in rings.now)) (group_of self) (group_of result) }
+    fn passed(self, rings: &[u64]) -> Cluster
+        requires { (i : ℕ) → has (ring_bits self.left) i ≡ true → i < length (sets_in rings.now) }
+        ensures { Pass (sets_in rings.now) (group_of self) (group_of result) }
     {
         let mut cluster = self;
         let mut i = cluster.left.next(0);
-        while i < count {
+        while i <= RingSet::LAST {
             cluster = cluster.joined(i, BondSet::at(rings, i));
             i = cluster.left.next(i + 1);
         }
@@ -61,39 +61,46 @@ impl Cluster {
     }
 }
 
-// The cluster of a ring, collected from the rings left.
-fn cluster_of(rings: &[u64; BASIS_WORDS], count: usize, first: usize, left: RingSet) -> Cluster
-    requires { (count ≤ max_bonds) × (has (ring_bits left) first ≡ true) × ((i : ℕ) → has (ring_bits left) i ≡ true → i < count) }
-    ensures { Grouped (take count (sets_in rings.now)) first (ring_bits left) (group_of result) × Apart (take count (sets_in rings.now)) (group_of result) }
+// The cluster of a ring, collected from the rings left by passes until one adds none.
+fn cluster_of(rings: &[u64], first: usize, left: RingSet) -> Cluster
+    requires first { has (ring_bits left) first ≡ true }
+    requires inside { (i : ℕ) → has (ring_bits left) i ≡ true → i < length (sets_in rings.now) }
+    ensures grouped { Grouped (sets_in rings.now) first (ring_bits left) (group_of result) }
+    ensures apart { Apart (sets_in rings.now) (group_of result) }
 {
     let mut cluster = Cluster {
         members: RingSet::only(first),
         bonds: BondSet::at(rings, first),
         left: left.without(first),
     };
-    let mut grew = true;
-    while grew {
+    loop {
         let before = cluster.left.size();
-        cluster = cluster.passed(rings, count);
-        grew = cluster.left.size() < before;
+        cluster = cluster.passed(rings);
+        if cluster.left.size() == before {
+            return cluster;
+        }
     }
-    cluster
+}
+
+// The first count sets of a list, or all of them where it has no more.
+fn first_sets(list: &[u64], count: usize) -> &[u64]
+    ensures { sets_in result.now ≡ take count (sets_in list.now) }
+{
+    &list[..sets_up_to(list, count) * WORDS]
 }
 
 // The assemblies of the first basis rings of a list, or of all of them where a list has no more.
 pub fn assemblies_of(rings: &[u64; BASIS_WORDS], count: usize) -> Assemblies
     ensures { AssembliesOf (take count (sets_in rings.now)) result }
 {
-    let places = sets_in(rings);
-    let known = sets_up_to(rings, count);
+    let known = first_sets(rings, count);
     let mut members = [RingSet::EMPTY; MAX_BONDS];
     let mut assemblies: usize = 0;
-    let mut left = RingSet::below(known);
+    let mut left = RingSet::below(sets_in(known));
     let mut first = left.next(0);
-    while first < places {
-        let cluster = cluster_of(rings, known, first, left);
-        let found = cluster.members;
-        members[assemblies] = found;
+    while first <= RingSet::LAST {
+        let cluster = cluster_of(known, first, left);
+        members[assemblies] = cluster.members;
         assemblies += 1;
         left = cluster.left;
         first = left.next(0);
@@ -121,9 +128,7 @@ pub(crate) fn write_assemblies(found: Assemblies, out: &mut [u8])
     requires { (found.count ≤ max_bonds) × ((a i : ℕ) → has (get_or (members_of found) a 0) i ≡ true → i < length out.old) }
     ensures { (rs : List ℕ) → length rs ≤ length out.old → AssembliesOf rs found → out.new ≡ over (assemblies_of rs) out.old }
 {
-    let mut a: usize = 0;
-    while a < found.count {
-        number_members(found.members[a], a as u8, out);
-        a += 1;
+    for (a, members) in found.members[..found.count].iter().enumerate() {
+        number_members(*members, a as u8, out);
     }
 }
