@@ -1,6 +1,6 @@
 -- The rings of the assemblies, listed one assembly after another and then in order. Assumes nothing.
-use mathlib.Core.Path.{◌≡◌, subst⁻¹, ap, ◌∙◌}
-use mathlib.Core.List.{List, []}
+use mathlib.Core.Path.{◌≡◌, subst, subst⁻¹, ap, ◌∙◌}
+use mathlib.Core.List.{List, [], Memᴰ as In}
 use Prim.Native.Nat.{ℕ, ◌+◌, ◌^◌, ◌/◌, ◌≤◌, ◌<◌}
 use native.Mathlib.Omega.{arith}
 use lib.ListN.{length, get_or, take}
@@ -52,17 +52,16 @@ listed-ordered g h e = record { few = h; list = e ∙ ap (sort before) (appended
 
 module _ {rings sets : List ℕ} {r : ℕ} (o : Ordered rings sets r) where
   -- where each is a sum of as many basis rings as are wanted, a smallest basis can be chosen from them
-  pub ordered_choosable : {n : ℕ} {taken : List ℕ} → n ≤ room → Spanned n rings → length taken ≡ room → Choosable sets r n taken
-  ordered_choosable few spanned t = record {
-    within = o.few;
+  pub ordered_choosable : {firsts taken : List ℕ} {n : ℕ} → firsts ≡ take r sets → n ≤ room → Spanned n rings → length taken ≡ room → Choosable firsts n taken
+  ordered_choosable e few spanned t = record {
     lent = t;
     few = few;
-    spanned = (spanned.0, spanned.1, λ x i. spanned.2 x ((sort_in before rings x).0 (rw o.list at i)));
+    spanned = (spanned.0, spanned.1, λ x i. spanned.2 x ((sort_in before rings x).0 (subst (In x) (e ∙ o.list) i)));
   }
 
   -- what is chosen from them is taken of them
-  pub ordered-chosen : {lent taken : List ℕ} {k : ℕ} → Selected (take r sets) lent taken k → take k taken ≡ taking [] (sort before rings)
-  ordered-chosen chosen = chosen.list ∙ ap (taking []) o.list
+  pub ordered-chosen : {firsts lent taken : List ℕ} {k : ℕ} → firsts ≡ take r sets → Selected firsts lent taken k → take k taken ≡ taking [] (sort before rings)
+  ordered-chosen e chosen = chosen.list ∙ ap (taking []) (e ∙ o.list)
 
 -- ---- what is worked out of an accepted table
 

@@ -54,7 +54,7 @@ fn write_smallest(
 {
     let all = list_rings(rings, assemblies, found, ordered);
     let mut taken = [0u64; BASIS_WORDS];
-    let chosen = smallest_of(ordered, all, count, &mut taken);
+    let chosen = smallest_of(&ordered[..all * WORDS], count, &mut taken);
     write_sets(&taken, chosen, out)
 }
 

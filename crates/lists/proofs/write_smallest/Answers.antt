@@ -3,6 +3,7 @@ use mathlib.Core.Path.{ap}
 use lib.ListN.{length}
 use Rattle.sets.proofs.Lists.{sets-blank}
 use Rattle.definitions.specs.Table.{max_bonds}
+use Rattle.ordering.proofs.Firsts.{firsts}
 use Rattle.lists.proofs.Laws.{listable_held, ordered_choosable, ordered-chosen}
 use Rattle.lists.proofs.write_smallest.Goals as goal
 
@@ -11,7 +12,9 @@ list_rings-all-requires c = let given = c.requires in (listable_held _ given.2, 
 
 pub smallest_of-chosen-requires : goal.smallest_of-chosen-requires
 smallest_of-chosen-requires c = let given = c.requires in
-    ordered_choosable c.list_rings-all.ensures given.0 given.1 (ap length (sets-blank max_bonds))
+    let ordered = c.list_rings-all.ensures in
+    ordered_choosable ordered (firsts c.list_rings-all.result _ ordered.few) given.0 given.1 (ap length (sets-blank max_bonds))
 
 pub returns : goal.returns
-returns c = rw (ordered-chosen c.list_rings-all.ensures c.smallest_of-chosen.ensures) at c.write_sets.ensures
+returns c = let ordered = c.list_rings-all.ensures in
+    rw (ordered-chosen ordered (firsts c.list_rings-all.result _ ordered.few) c.smallest_of-chosen.ensures) at c.write_sets.ensures
