@@ -21,6 +21,7 @@ use Rattle.basis.specs.Held.{members_of}
 use Rattle.combining.specs.Gibbs.{found_at, found_in}
 use Rattle.choosing.specs.Elimination.{Spanned}
 use Rattle.perception.specs.Perceiving.{Perceives}
+use Rattle.std.proofs.Common.{Ok}
 use Rattle.perception.specs.declared.Perceived.{Perceived}
 use Rattle.perception.proofs.Perceiving.{all_found-few, perceived, perceived_small, perceived_found, perceived_room, perceived_most}
 use Rattle.lists.specs.Listed.{Listable, Ordered, Workable}
@@ -55,25 +56,25 @@ spanned_sorted {n} {rings} spanned = (spanned.0, spanned.1, λ x i. spanned.2 x 
 
 -- ---- what is worked out of an accepted table
 
-module _ {M : Table} {p : Perceived} (seen : Perceives M p) (zero : p.number ≤ 0) where
+module _ {M : Table} {p : Perceived} (seen : Perceives M (Ok p)) where
   -- the longest lists have room for its rings, and so have shorter ones that hold more sets than its assemblies have sums
   pub perceived_workable : Workable (members_of p.assemblies) p.assemblies.count p.sums
   perceived_workable =
-      let small = perceived_small seen zero in
+      let small = perceived_small seen in
       record {
-        longest = record { counted = small.counted; found = perceived_most seen zero; sums = λ a l. omega (arith, pow_mono (small.small a l)) };
-        shorter = λ m h. record { counted = small.counted; found = omega (arith, (perceived seen zero).sums); sums = perceived_room seen zero h };
+        longest = record { counted = small.counted; found = perceived_most seen; sums = λ a l. omega (arith, pow_mono (small.small a l)) };
+        shorter = λ m h. record { counted = small.counted; found = omega (arith, (perceived seen).sums); sums = perceived_room seen h };
       }
 
   -- an answer that holds what is found of it in order holds all rings
   pub perceived_all : (lent : List ℕ) {o : Outcome (List ℕ)}
       → o ≡ written_sets 0 (sort before (found_in (sets_in p.basis.rings) (members_of p.assemblies) p.assemblies.count)) lent
       → o ≡ written_sets (refusal_of_rings M) (all_rings M) lent
-  perceived_all lent h = sets-accepted (all_rings M) lent seen.number zero (perceived_found seen zero) h
+  perceived_all lent h = sets-accepted (all_rings M) lent seen.number (perceived_found seen) h
 
   -- one that holds what is taken of that holds the smallest basis
   pub perceived_smallest : (lent : List ℕ) {o : Outcome (List ℕ)}
       → o ≡ written_sets 0 (taking [] (sort before (found_in (sets_in p.basis.rings) (members_of p.assemblies) p.assemblies.count))) lent
       → o ≡ written_sets (refusal_of_rings M) (smallest_basis M) lent
   unfolding smallest_basis
-  perceived_smallest lent h = sets-accepted (smallest_basis M) lent seen.number zero (ap (taking []) (perceived_found seen zero)) h
+  perceived_smallest lent h = sets-accepted (smallest_basis M) lent seen.number (ap (taking []) (perceived_found seen)) h

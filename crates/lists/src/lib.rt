@@ -12,15 +12,17 @@ ghost use Rattle.definitions.specs.Search.{sort};
 ghost use Rattle.definitions.specs.Table.{table};
 ghost use Rattle.definitions.specs.AllRings.{before, all_rings};
 ghost use Rattle.definitions.specs.Smallest.{smallest_basis};
-ghost use Rattle.definitions.specs.Answer.{outcome_of, written_sets, refusal_of_rings};
+ghost use Rattle.definitions.specs.Answer.{written_sets, refusal_of_rings};
+ghost use Rattle.answers.specs.Told.{told};
 ghost use Rattle.basis.specs.Held.{members_of};
 ghost use Rattle.lists.specs.Listed.{rings_found, Listable, Workable};
 
-use answers::{Answer, BASIS_WORDS};
+use answers::{BASIS_WORDS, Refusal};
 use basis::Assemblies;
 use listing::list_rings;
 use perception::{FEW, MANY, perceive};
 use room::{FEW_WORDS, MANY_WORDS, MOST_WORDS, SHORTER};
+use sets::WORDS;
 use wanted::{AllRings, SmallestBasis, Wanted};
 
 // Writes what is wanted of the rings of the assemblies, worked out in two lists with room.
@@ -31,12 +33,12 @@ fn write_wanted<W: Wanted>(
     found: &mut [u64],
     ordered: &mut [u64],
     out: &mut [u64],
-) -> Answer
+) -> Result<usize, Refusal>
     requires { W.can_choose wanted (sort before (rings_found (sets_in rings.now) assemblies)) × Listable (members_of assemblies) assemblies.count (length found.old / words) × Listable (members_of assemblies) assemblies.count (length ordered.old / words) }
-    ensures { outcome_of result.number result.count out.new ≡ written_sets 0 (W.chosen wanted (sort before (rings_found (sets_in rings.now) assemblies))) out.old }
+    ensures { told result out.new ≡ written_sets 0 (W.chosen wanted (sort before (rings_found (sets_in rings.now) assemblies))) out.old }
 {
     let all = list_rings(rings, assemblies, found, ordered);
-    wanted.write(ordered, all, out)
+    wanted.write(&ordered[..all * WORDS], out)
 }
 
 // Writes it in two lists of so many words.
@@ -45,9 +47,9 @@ fn write_in<W: Wanted, const LONG: usize>(
     rings: &[u64; BASIS_WORDS],
     assemblies: Assemblies,
     out: &mut [u64],
-) -> Answer
+) -> Result<usize, Refusal>
     requires { (LONG < 2 ^ 60) × W.can_choose wanted (sort before (rings_found (sets_in rings.now) assemblies)) × Listable (members_of assemblies) assemblies.count (LONG / words) }
-    ensures { outcome_of result.number result.count out.new ≡ written_sets 0 (W.chosen wanted (sort before (rings_found (sets_in rings.now) assemblies))) out.old }
+    ensures { told result out.new ≡ written_sets 0 (W.chosen wanted (sort before (rings_found (sets_in rings.now) assemblies))) out.old }
 {
     let mut found = [0u64; LONG];
     let mut ordered = [0u64; LONG];
@@ -64,9 +66,9 @@ fn write_from<W: Wanted>(
     assemblies: Assemblies,
     sums: usize,
     out: &mut [u64],
-) -> Answer
+) -> Result<usize, Refusal>
     requires { W.can_choose wanted (sort before (rings_found (sets_in rings.now) assemblies)) × Workable (members_of assemblies) assemblies.count sums }
-    ensures { outcome_of result.number result.count out.new ≡ written_sets 0 (W.chosen wanted (sort before (rings_found (sets_in rings.now) assemblies))) out.old }
+    ensures { told result out.new ≡ written_sets 0 (W.chosen wanted (sort before (rings_found (sets_in rings.now) assemblies))) out.old }
 {
     if lengths == 0 {
         return write_in::<W, MOST_WORDS>(wanted, rings, assemblies, out);
@@ -84,17 +86,11 @@ fn write_from<W: Wanted>(
 }
 
 // All rings: sets as words, ordered by size and then as numbers.
-pub fn all_rings(atoms: u64, bonds: &[u8], out: &mut [u64]) -> Answer
-    ensures answer { outcome_of result.number result.count out.new ≡ written_sets (refusal_of_rings (table atoms bonds.now)) (all_rings (table atoms bonds.now)) out.old }
+pub fn all_rings(atoms: u64, bonds: &[u8], out: &mut [u64]) -> Result<usize, Refusal>
+    ensures answer { told result out.new ≡ written_sets (refusal_of_rings (table atoms bonds.now)) (all_rings (table atoms bonds.now)) out.old }
     ensures read { bonds.exit.now ≡ bonds.entry.now }
 {
-    let seen = perceive(atoms, bonds);
-    if seen.number > 0 {
-        return Answer {
-            number: seen.number,
-            count: 0,
-        };
-    }
+    let seen = perceive(atoms, bonds)?;
     let basis = seen.basis;
     write_from(
         SHORTER,
@@ -107,17 +103,11 @@ pub fn all_rings(atoms: u64, bonds: &[u8], out: &mut [u64]) -> Answer
 }
 
 // The smallest basis: sets as words, as they are taken from all rings.
-pub fn smallest_basis(atoms: u64, bonds: &[u8], out: &mut [u64]) -> Answer
-    ensures answer { outcome_of result.number result.count out.new ≡ written_sets (refusal_of_rings (table atoms bonds.now)) (smallest_basis (table atoms bonds.now)) out.old }
+pub fn smallest_basis(atoms: u64, bonds: &[u8], out: &mut [u64]) -> Result<usize, Refusal>
+    ensures answer { told result out.new ≡ written_sets (refusal_of_rings (table atoms bonds.now)) (smallest_basis (table atoms bonds.now)) out.old }
     ensures read { bonds.exit.now ≡ bonds.entry.now }
 {
-    let seen = perceive(atoms, bonds);
-    if seen.number > 0 {
-        return Answer {
-            number: seen.number,
-            count: 0,
-        };
-    }
+    let seen = perceive(atoms, bonds)?;
     let basis = seen.basis;
     let wanted = SmallestBasis { count: basis.count };
     write_from(

@@ -8,6 +8,7 @@ use answers::BASIS_WORDS;
 use basis::Assemblies;
 use combining::add_assembly;
 use ordering::order_rings;
+use sets::WORDS;
 
 // All rings of the assemblies in order at the start of a list, and how many there are. They are found one assembly after another in another
 // list with room; the one in which they come to stand holds the sums of each assembly before that.
@@ -21,11 +22,9 @@ pub(crate) fn list_rings(
     ensures { Ordered (rings_found (sets_in rings.now) assemblies) (sets_in ordered.new) result }
 {
     let mut count: usize = 0;
-    let mut a: usize = 0;
-    while a < assemblies.count {
+    for a in 0..assemblies.count {
         count = add_assembly(rings, assemblies.members[a], ordered, found, count);
-        a += 1;
     }
-    order_rings(found, count, ordered);
+    order_rings(&found[..count * WORDS], ordered);
     count
 }

@@ -1,12 +1,14 @@
 // What is wanted of a table's rings: all of them, or the smallest basis that is taken of them.
-ghost use Rattle.std.specs.Prelude.{◌≡◌, [], ◌≤◌, List, ℕ, ⊤, length, take};
+ghost use Rattle.std.specs.Prelude.{◌≡◌, [], ◌≤◌, List, ℕ, ⊤};
 ghost use Rattle.sets.specs.Lists.{sets_in};
 ghost use Rattle.definitions.specs.Table.{max_bonds};
 ghost use Rattle.definitions.specs.Smallest.{taking};
-ghost use Rattle.definitions.specs.Answer.{outcome_of, written_sets};
+ghost use Rattle.definitions.specs.Answer.{written_sets};
+ghost use Rattle.answers.specs.Told.{told};
 ghost use Rattle.choosing.specs.Elimination.{Spanned};
 
-use answers::{Answer, BASIS_WORDS, write_sets};
+use answers::{BASIS_WORDS, Refusal, write_sets};
+use sets::list::sets_in;
 use choosing::smallest_of;
 
 pub(crate) trait Wanted {
@@ -16,10 +18,10 @@ pub(crate) trait Wanted {
     // what it is of them
     ghost chosen: { Self → List ℕ → List ℕ };
 
-    // Writes it, of the first so many sets of a list.
-    fn write(self, ordered: &[u64], count: usize, out: &mut [u64]) -> Answer
-        requires { (count ≤ length (sets_in ordered.now)) × can_choose self (take count (sets_in ordered.now)) }
-        ensures { outcome_of result.number result.count out.new ≡ written_sets 0 (chosen self (take count (sets_in ordered.now))) out.old };
+    // Writes it, of a list of rings.
+    fn write(self, rings: &[u64], out: &mut [u64]) -> Result<usize, Refusal>
+        requires { can_choose self (sets_in rings.now) }
+        ensures { told result out.new ≡ written_sets 0 (chosen self (sets_in rings.now)) out.old };
 }
 
 // All of them.
@@ -31,8 +33,8 @@ impl Wanted for AllRings {
 
     ghost chosen = { λ _ rings. rings };
 
-    fn write(self, ordered: &[u64], count: usize, out: &mut [u64]) -> Answer {
-        write_sets(ordered, count, out)
+    fn write(self, rings: &[u64], out: &mut [u64]) -> Result<usize, Refusal> {
+        write_sets(rings, sets_in(rings), out)
     }
 }
 
@@ -47,9 +49,9 @@ impl Wanted for SmallestBasis {
 
     ghost chosen = { λ _ rings. taking [] rings };
 
-    fn write(self, ordered: &[u64], count: usize, out: &mut [u64]) -> Answer {
+    fn write(self, rings: &[u64], out: &mut [u64]) -> Result<usize, Refusal> {
         let mut taken = [0u64; BASIS_WORDS];
-        let chosen = smallest_of(ordered, count, self.count, &mut taken);
+        let chosen = smallest_of(rings, self.count, &mut taken);
         write_sets(&taken, chosen, out)
     }
 }

@@ -38,7 +38,7 @@ use Rattle.combining.specs.Gibbs.{clear?, rings_from, combined, found_at, found_
 use Rattle.combining.proofs.Turns.{found-few}
 use Rattle.combining.proofs.Exactly.{combined-sum}
 use Rattle.ordering.specs.Sizes.{Countable, Tallied}
-use Rattle.ordering.proofs.Sizing.{occurs-le, tallied_higher, Tallying, tallying_none, tallying_more, tallying_all}
+use Rattle.ordering.proofs.Sizing.{occurs-le, tallied_higher, Tallying, tallying_none, tallying_more}
 use Rattle.choosing.specs.Elimination.{Choosable, Selected}
 use Rattle.rings.specs.Tally.{most_in_one, most_in_all, Both, Single, Alone, Separate}
 use Rattle.perception.proofs.Perceiving.{all_found-most}
@@ -120,28 +120,29 @@ module _ {sets start found : List ℕ} {n : ℕ} (g : Appended start 0 sets foun
   first : take n found ≡ sets
   first = appended_take (omega arith) g
 
-  module _ {all₀ all smallest₀ smallest : List ℕ} {mid r : ℕ} (t : Tallied (take n found) all₀ 0 all mid) where
+  module _ {counted all₀ all smallest₀ smallest : List ℕ} {mid r : ℕ} (f : counted ≡ take n found) (t : Tallied counted all₀ 0 all mid) where
     -- then what is taken of them is counted
     both_counted : {taken : List ℕ} → taken ≡ taking [] (sort before sets) → Tallied taken smallest₀ mid smallest r → Both sets all₀ smallest₀ all smallest r
     both_counted e u =
         let few : mid ≤ all_sizes = t.within (omega arith) in (
-          subst (λ l. Tallied l all₀ 0 all r) first (tallied_higher r u.higher (u.within few) t),
+          subst (λ l. Tallied l all₀ 0 all r) (f ∙ first) (tallied_higher r u.higher (u.within few) t),
           subst (λ l. Tallied l smallest₀ 0 smallest r) e (tallied_lowered few u),
         )
 
     -- which is chosen from them in order
-    pub both_chosen : {ordered lent taken : List ℕ} {k : ℕ} → ordered ≡ sort before (take n found) → Selected ordered lent taken k
-        → Tallied (take k taken) smallest₀ mid smallest r → Both sets all₀ smallest₀ all smallest r
-    both_chosen e s u = both_counted (s.list ∙ ap (taking []) (e ∙ ap (sort before) first)) u
+    pub both_chosen : {ordered lent taken chosen : List ℕ} {k : ℕ} → ordered ≡ sort before (take n found) → Selected ordered lent taken k → chosen ≡ take k taken
+        → Tallied chosen smallest₀ mid smallest r → Both sets all₀ smallest₀ all smallest r
+    both_chosen e s d u = both_counted (d ∙ s.list ∙ ap (taking []) (e ∙ ap (sort before) first)) u
 
 -- ---- a ring that is alone in its assembly, given by its place
 
 -- one set is counted under its size
 tallied_one : {start : List ℕ} (x : ℕ) {z : ℕ} → Countable start most_in_one → z ≡ size x → z < all_sizes
     → Tallied (x ∷ []) start 0 (set start z (get_or start z 0 + 1)) (z + 1)
-tallied_one {start} x c e h =
-    let none : Tallying (x ∷ []) 1 start 0 start 0 0 = tallying_none 0 (omega arith) (countable_less c (omega arith)) in
-    tallying_all (tallying_more none (omega arith) e h (omega arith, omega arith, λ l. omega arith)) (omega arith)
+tallied_one {start} x {z = z} c e h =
+    let none : Tallying (x ∷ []) start 0 start 0 0 = tallying_none 0 (countable_less c (omega arith)) in
+    let one : Tallying (x ∷ []) start 0 (set start z (get_or start z 0 + 1)) (z + 1) 1 = tallying_more none (omega arith) e h (omega arith) in
+    record { long = one.places; told = one.told; higher = one.higher; within = one.low; none = one.none }
 
 module _ {rings : List ℕ} {places i : ℕ} (s : Single rings places) (b : places < 2 ^ room) (n : IsNext room places 0 i) where
   -- there is such a place
@@ -197,12 +198,11 @@ module _ {rings : List ℕ} {places m : ℕ} (h : Alone rings places m) {start f
   alone_few = omega (arith, g.end, found-few rings places, pow_mono h.small)
 
   -- each set found is a sum of its basis rings, so a smallest basis can be chosen from them in order
-  pub alone_choosable : {ordered taken : List ℕ} {want : ℕ} → places < 2 ^ room → want ≡ size places → n ≤ length ordered → take n ordered ≡ sort before (take n found)
-      → length taken ≡ bond.room → Choosable ordered n want taken
-  alone_choosable b is within e lent =
+  pub alone_choosable : {ordered taken : List ℕ} {want : ℕ} → places < 2 ^ room → want ≡ size places → ordered ≡ sort before (take n found)
+      → length taken ≡ bond.room → Choosable ordered want taken
+  alone_choosable b is e lent =
       let basis = picked rings places in
       record {
-        within = within;
         lent = lent;
         few = omega (arith, is, h.small);
         spanned = (

@@ -12,7 +12,7 @@ use answers::{BASIS_WORDS, SIZES};
 use choosing::smallest_of;
 use combining::add_assembly;
 use ordering::{count_sizes, order_rings};
-use sets::{BondSet, RingSet};
+use sets::{BondSet, RingSet, WORDS};
 
 // Counts a ring that is alone in its assembly: it is its own smallest basis.
 pub(crate) fn count_alone(
@@ -44,9 +44,10 @@ pub(crate) fn count_assembly(
     ensures { Both (combined (picked (sets_in rings.now) (bits members))) all.old smallest.old all.new smallest.new result }
 {
     let n = add_assembly(rings, members, ordered, found, 0);
-    let top = count_sizes(found, n, all, 0);
-    order_rings(found, n, ordered);
+    let all_found = &found[..n * WORDS];
+    let top = count_sizes(all_found, all, 0);
+    order_rings(all_found, ordered);
     let mut taken = [0u64; BASIS_WORDS];
-    let chosen = smallest_of(ordered, n, members.size(), &mut taken);
-    count_sizes(&taken, chosen, smallest, top)
+    let chosen = smallest_of(&ordered[..n * WORDS], members.size(), &mut taken);
+    count_sizes(&taken[..chosen * WORDS], smallest, top)
 }

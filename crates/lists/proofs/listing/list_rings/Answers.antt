@@ -7,6 +7,7 @@ use Rattle.lent.proofs.Appending.{strung_none, strung_room, strung_more, strung_
 use Rattle.basis.specs.Held.{members_of}
 use Rattle.basis.proofs.Holding.{members-at}
 use Rattle.combining.specs.Gibbs.{found_at}
+use Rattle.ordering.proofs.Firsts.{firsts_long, firsts_ordered}
 use Rattle.lists.proofs.Laws.{listable_room, listable_sums, listable_within, listed-ordered}
 use Rattle.lists.proofs.listing.list_rings.Goals as goal
 
@@ -27,7 +28,11 @@ loop-a-preserved c =
 pub order_rings-requires : goal.order_rings-requires
 order_rings-requires c = let rings = sets_in c.args.rings.now in
     let all = strung_all c.loop-a.invariant.2 (omega arith) in
-    (listable_within rings c.requires.0 all (sets-long _ _ c.loop-a.invariant.0), listable_within rings c.requires.1 all (sets-long _ _ c.loop-a.invariant.1))
+    omega (
+      arith,
+      firsts_long c.loop-a.count _ (listable_within rings c.requires.0 all (sets-long _ _ c.loop-a.invariant.0)),
+      listable_within rings c.requires.1 all (sets-long _ _ c.loop-a.invariant.1),
+    )
 
 pub shape_of-found : goal.shape_of-found
 shape_of-found c = c.loop-a.invariant.0
@@ -37,6 +42,8 @@ shape_of-ordered c = c.order_rings.ensures.0 ∙ c.loop-a.invariant.1
 
 pub returns : goal.returns
 returns c =
+    let rings = sets_in c.args.rings.now in
     let all = strung_all c.loop-a.invariant.2 (omega arith) in
     let done = c.order_rings.ensures in
-    listed-ordered all (listable_within (sets_in c.args.rings.now) c.requires.1 all (sets-long _ _ (done.0 ∙ c.loop-a.invariant.1))) done.1
+    let held = listable_within rings c.requires.0 all (sets-long _ _ c.loop-a.invariant.0) in
+    listed-ordered all (listable_within rings c.requires.1 all (sets-long _ _ (done.0 ∙ c.loop-a.invariant.1))) (firsts_ordered c.loop-a.count _ held _ done.1)

@@ -12,6 +12,3 @@ abbrev pub invariant-loop-a : goal.invariant-loop-a
 invariant-loop-a l =
     (length l.found ≡ length l.initial.found) × (length l.ordered ≡ length l.initial.ordered)
     × Strung (found_at (sets_in l.rings) (members_of l.assemblies)) l.assemblies.count (sets_in l.initial.found) (sets_in l.found) 0 l.count l.a
-
-abbrev pub decreases-loop-a : goal.decreases-loop-a
-decreases-loop-a l = l.assemblies.count - l.a

@@ -6,4 +6,4 @@ use Rattle.definitions.specs.Table.{max_bonds}
 use Rattle.lists.proofs.wanted.SmallestBasisWanted.write.Goals as goal
 
 pub smallest_of-chosen-requires : goal.smallest_of-chosen-requires
-smallest_of-chosen-requires c = record { within = c.requires.0; lent = ap length (sets-blank max_bonds); few = c.requires.1.0; spanned = c.requires.1.1 }
+smallest_of-chosen-requires c = record { lent = ap length (sets-blank max_bonds); few = c.requires.0; spanned = c.requires.1 }
