@@ -7,7 +7,7 @@ use Rattle.lent.proofs.Appending.{strung_none, strung_room, strung_more, strung_
 use Rattle.basis.specs.Held.{members_of}
 use Rattle.basis.proofs.Holding.{members-at}
 use Rattle.combining.specs.Gibbs.{found_at}
-use Rattle.ordering.proofs.Firsts.{firsts_long, firsts_ordered}
+use Rattle.ordering.proofs.Firsts.{firsts_long, firsts_room, firsts_words, firsts_ordered}
 use Rattle.lists.proofs.Laws.{listable_room, listable_sums, listable_within, listed-ordered}
 use Rattle.lists.proofs.listing.list_rings.Goals as goal
 
@@ -34,11 +34,15 @@ order_rings-requires c = let rings = sets_in c.args.rings.now in
       listable_within rings c.requires.1 all (sets-long _ _ c.loop-a.invariant.1),
     )
 
-pub shape_of-found : goal.shape_of-found
-shape_of-found c = c.loop-a.invariant.0
+pub slice_bounds-order_rings-end : goal.slice_bounds-order_rings-end
+slice_bounds-order_rings-end c =
+    let all = strung_all c.loop-a.invariant.2 (omega arith) in
+    firsts_room c.loop-a.count _ (listable_within (sets_in c.args.rings.now) c.requires.0 all (sets-long _ _ c.loop-a.invariant.0))
 
-pub shape_of-ordered : goal.shape_of-ordered
-shape_of-ordered c = c.order_rings.ensures.0 ∙ c.loop-a.invariant.1
+pub slice_bounds-order_rings-end-2 : goal.slice_bounds-order_rings-end-2
+slice_bounds-order_rings-end-2 c =
+    let all = strung_all c.loop-a.invariant.2 (omega arith) in
+    firsts_words c.loop-a.count _ (listable_within (sets_in c.args.rings.now) c.requires.0 all (sets-long _ _ c.loop-a.invariant.0))
 
 pub returns : goal.returns
 returns c =

@@ -1,6 +1,5 @@
 -- Before each turn the rings of the assemblies below a stand at the start of a list; at last those of all are put in order. Assumes nothing.
 use mathlib.Core.Path.{◌≡◌}
-use Prim.Native.Nat.{◌-◌}
 use lib.ListN.{length}
 use Rattle.sets.specs.Lists.{sets_in}
 use Rattle.lent.proofs.Appending.{Strung}

@@ -20,12 +20,6 @@ inside c =
 pub at-requires : goal.at-requires
 at-requires c = omega (arith, inside (goal.at.at-requires c).After-next, sets-whole max_bonds c.args.rings.now (search rules))
 
-pub overflow_add-all : goal.overflow_add-all
-overflow_add-all c = omega (arith, c.requires.1.fits c.size-size.result)
-
-pub overflow_add-smallest : goal.overflow_add-smallest
-overflow_add-smallest c = omega (arith, c.requires.2.fits c.size-size.result)
-
 pub returns : goal.returns
 returns c = let (single, all, smallest) = c.requires in
     both_single single (ring-lt c.args.members (search rules)) c.next.ensures all smallest
