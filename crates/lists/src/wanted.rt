@@ -8,8 +8,8 @@ ghost use Rattle.answers.specs.Told.{told};
 ghost use Rattle.choosing.specs.Elimination.{Spanned};
 
 use answers::{BASIS_WORDS, Refusal, write_sets};
-use sets::list::sets_in;
 use choosing::smallest_of;
+use sets::list::sets_in;
 
 pub(crate) trait Wanted {
     // which rings, in order, it can be chosen from
