@@ -1,8 +1,7 @@
 // The lines that the program prints, each written at a place of a lent list.
-ghost use Rattle.std.specs.Prelude.{◌≤◌, length, take};
 ghost use Rattle.definitions.specs.Ringline as text;
 ghost use Rattle.lent.specs.Appended.{Room, Appended};
-ghost use Rattle.ringline.specs.Line.{answer_line};
+ghost use Rattle.ringline.specs.Line.{answer_text, answer_line};
 
 use records::{put_decimal, put_hex, put_spaced, put_text};
 
@@ -25,32 +24,29 @@ pub(crate) fn put_frame(number: u64, out: &mut [u8], at: usize) -> usize
     put_text(b"frame\n", out, word)
 }
 
-// The first n bytes of a list in hex, or `-` where the table is refused.
-fn put_label_text(refusal: u8, label: &[u8], n: usize, out: &mut [u8], at: usize) -> usize
-    requires { (n ≤ length label.now) × Room (text.label_text refusal (take n label.now)) out.old at }
-    ensures { Appended out.old at (text.label_text refusal (take n label.now)) out.new result }
+// 0 and a label in hex, or the number of a refusal and `-`.
+fn put_label(label: Result<&[u8], u8>, out: &mut [u8], at: usize) -> usize
+    requires { Room (answer_text label) out.old at }
+    ensures { Appended out.old at (answer_text label.entry) out.new result }
 {
-    if refusal == 0 {
-        put_hex(label, n, out, at)
-    } else {
-        put_text(b"-", out, at)
+    match label {
+        Ok(bytes) => {
+            let word = put_text(b"0 ", out, at);
+            put_hex(bytes, out, word)
+        }
+        Err(refusal) => {
+            let word = put_spaced(refusal as u64, out, at);
+            put_text(b"-", out, word)
+        }
     }
 }
 
-// The number of a record, the number of its label's answer, and the label.
-pub(crate) fn put_answer(
-    number: u64,
-    refusal: u8,
-    label: &[u8],
-    n: usize,
-    out: &mut [u8],
-    at: usize,
-) -> usize
-    requires { (n ≤ length label.now) × Room (answer_line number refusal (take n label.now)) out.old at }
-    ensures { Appended out.old at (answer_line number refusal (take n label.now)) out.new result }
+// The number of a record, and its label or refusal.
+pub(crate) fn put_answer(number: u64, label: Result<&[u8], u8>, out: &mut [u8], at: usize) -> usize
+    requires { Room (answer_line number label) out.old at }
+    ensures { Appended out.old at (answer_line number label.entry) out.new result }
 {
-    let answer = put_spaced(number, out, at);
-    let word = put_spaced(refusal as u64, out, answer);
-    let line_end = put_label_text(refusal, label, n, out, word);
+    let word = put_spaced(number, out, at);
+    let line_end = put_label(label, out, word);
     put_text(b"\n", out, line_end)
 }
