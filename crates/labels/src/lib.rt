@@ -4,4 +4,4 @@
 mod histogram;
 mod text;
 
-pub use text::{Numbers, write_label};
+pub use text::write_label;

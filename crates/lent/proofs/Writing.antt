@@ -5,10 +5,12 @@ use Prim.Native.Nat.{ℕ, ◌+◌, ◌<◌, ◌≤◌}
 use native.Mathlib.Omega.{arith}
 use lib.ListN.{length, length-append}
 use Rattle.definitions.specs.Search.{gather}
+use Rattle.definitions.specs.Answer.{over}
 use Rattle.definitions.proofs.Lists.{gather_step, gather-zero, gather_mono}
 use Rattle.lent.specs.declared.Writer.{Writer}
+use Rattle.lent.specs.Appended.{Appended}
 use Rattle.lent.specs.Writes.{Fits, Writes}
-use Rattle.lent.proofs.Appending.{appended_none, appended_more, appended_length}
+use Rattle.lent.proofs.Appending.{appended_none, appended_more, appended_length, appended_over}
 
 -- nothing is written where nothing happens
 pub writes_none : (a : Writer) → a.at ≤ length a.out.now → Writes [] a a
@@ -63,3 +65,7 @@ module _ (f : ℕ → List ℕ) {k : ℕ} {a b : Writer} (so_far : Writes (gathe
   -- after n turns all are written
   pub strings_all : {n : ℕ} {text : List ℕ} → k ≡ n → text ≡ gather n f → Writes text a b
   strings_all e all = rw (all, ← e) so_far
+
+-- what is written from the start of a list stands over it
+pub writes_over : {a b : Writer} {text l : List ℕ} → a.at ≡ 0 → a.out.now ≡ l → Writes text a b → b.out.now ≡ over text l
+writes_over {b = b} {text} start list all = appended_over (let m : Appended _ 0 text b.out.now b.at = rw (start, list) at all.appended in m)
