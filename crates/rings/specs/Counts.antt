@@ -1,5 +1,7 @@
 -- What is counted of a table. Assumes nothing.
-use Rattle.std.specs.Prelude.{◌≡◌, ◌≢◌, List, ℕ, ◌≤◌, length, get_or, take}
+use Rattle.std.specs.Prelude.{◌≡◌, List, ℕ, ◌≤◌, length, get_or, take, Result, IfOk, OnErr}
+use Rattle.answers.specs.Told.{code_of}
+use Rattle.answers.specs.declared.refusal.Refusal.{Refusal}
 use Rattle.definitions.specs.Table.{Table, max_bonds, all_sizes}
 use Rattle.definitions.specs.Basis.{basis_rings}
 use Rattle.definitions.specs.AllRings.{all_rings}
@@ -22,8 +24,8 @@ pub record Counted (M : Table) (c : Counts) (all smallest pairs : List ℕ) : Ty
   pub few : c.pairs ≤ max_bonds
   pub rising : take c.pairs pairs ≡ assembly_pairs M
 
--- the number of the refusal with nothing counted, or 0 and what is counted
-pub record CountsOf (M : Table) (c : Counts) (all smallest pairs : List ℕ) : Type 0 where
-  pub number : c.number ≡ refusal_of_rings M
-  pub refused : refusal_of_rings M ≢ 0 → (c.basis ≡ 0) × (c.top ≡ 0) × (c.pairs ≡ 0) × Blank all × Blank smallest
-  pub accepted : refusal_of_rings M ≡ 0 → Counted M c all smallest pairs
+-- r tells why the table is refused, with nothing counted, or what is counted
+pub record CountsOf (M : Table) (r : Result Counts Refusal) (all smallest pairs : List ℕ) : Type 0 where
+  pub number : code_of r ≡ refusal_of_rings M
+  pub refused : OnErr r (Blank all × Blank smallest)
+  pub accepted : IfOk r (λ c. Counted M c all smallest pairs)
