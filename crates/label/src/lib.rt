@@ -7,7 +7,7 @@ ghost use Rattle.definitions.specs.Label as spec;
 ghost use Rattle.definitions.specs.Answer.{outcome_of, written, refusal_of_rings};
 
 use answers::{Answer, MAX_BONDS, SIZES};
-use labels::{Numbers, write_label};
+use labels::write_label;
 use rings::count_rings;
 
 // The label: four fields, from the number of basis rings, which is the Frerejacque number, the rings, the smallest basis and the assemblies.
@@ -25,10 +25,8 @@ pub fn label(atoms: u64, bonds: &[u8], out: &mut [u8]) -> Answer
             count: 0,
         };
     }
-    let numbers = Numbers {
-        frerejacque: counts.basis as u64,
-        top: counts.top,
-        pairs: counts.pairs,
-    };
-    write_label(numbers, &all, &smallest, &pairs, out)
+    let frerejacque = counts.basis as u64;
+    let top = counts.top;
+    let pairs = &pairs[..counts.pairs];
+    write_label(frerejacque, &all[..top], &smallest[..top], pairs, out)
 }

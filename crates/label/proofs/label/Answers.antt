@@ -1,7 +1,7 @@
 -- The refusal is handed on. What is counted of an accepted table is written as its label. Assumes nothing.
 use mathlib.Core.Path.{refl}
 use native.Mathlib.Omega.{arith}
-use Rattle.label.proofs.Labelling.{cleared, sizes_none, label_refused, counted, label_written}
+use Rattle.label.proofs.Labelling.{cleared, label_refused, label_written}
 use Rattle.label.proofs.label.Goals as goal
 
 pub count_rings-counts-requires : goal.count_rings-counts-requires
@@ -9,10 +9,6 @@ count_rings-counts-requires c = (cleared, cleared, omega arith)
 
 pub returns-then-counts-gt0 : goal.returns-then-counts-gt0
 returns-then-counts-gt0 c = record { answer = label_refused c.count_rings-counts.ensures _ c.if-counts-gt0.true; read = refl }
-
-pub write_label-requires : goal.write_label-requires
-write_label-requires c = let told = counted c.count_rings-counts.ensures (omega arith) in
-    (sizes_none told.rings, sizes_none told.chosen, omega (arith, told.few))
 
 pub returns : goal.returns
 returns c = record { answer = label_written c.count_rings-counts.ensures (omega arith) _ c.write_label.ensures; read = refl }
