@@ -1,12 +1,13 @@
 // The bytes of a label, over the start of a lent list where there is room for them.
 ghost use Rattle.std.specs.Prelude.{◌≡◌, ◌≤◌, length};
 ghost use Rattle.definitions.specs.Table.{all_sizes};
-ghost use Rattle.definitions.specs.Answer.{outcome_of, over, written};
+ghost use Rattle.definitions.specs.Answer.{over, written};
+ghost use Rattle.answers.specs.Told.{told};
 ghost use Rattle.labels.specs.Text.{fields_of, label_bytes};
 ghost use Rattle.labels.specs.Sizes.{lines};
 
 use super::histogram::Histogram;
-use answers::{Answer, ROOM};
+use answers::Refusal;
 use fields::{HEAD, Tag, put_number_field};
 use lent::Writer;
 
@@ -44,19 +45,16 @@ pub fn write_label(
     smallest: &[usize],
     pairs: &[u64],
     out: &mut [u8],
-) -> Answer
+) -> Result<usize, Refusal>
     requires { (length rings.now ≤ all_sizes) × (length smallest.now ≤ all_sizes) }
-    ensures { outcome_of result.number result.count out.new ≡ written 0 (label_bytes frerejacque rings.now smallest.now pairs.now) out.old }
+    ensures { told result out.new ≡ written 0 (label_bytes frerejacque rings.now smallest.now pairs.now) out.old }
 {
     let rings = Histogram::new(COUNT, rings);
     let smallest = Histogram::new(SMALL_COUNT, smallest);
     let count = 4 * HEAD + 1 + rings.bytes + smallest.bytes + PAIR * pairs.len();
     if count > out.len() {
-        return Answer {
-            number: ROOM,
-            count: 0,
-        };
+        return Err(Refusal::Room);
     }
     put_fields(frerejacque, &rings, &smallest, pairs, out);
-    Answer { number: 0, count }
+    Ok(count)
 }

@@ -39,7 +39,7 @@ counted c = let r = c.new-rings.result in
 pub returns-then-count-out : goal.returns-then-count-out
 returns-then-count-out c =
     let at = goal.at.returns-then-count-out c in
-    is_short (text at.Start) c.args.out.now {c = 0} refl (omega arith) (counted at.After-new-smallest) (omega arith)
+    is_short (text at.Start) c.args.out.now {c = 0} refl (counted at.After-new-smallest) (omega arith)
 
 pub put_fields-requires : goal.put_fields-requires
 put_fields-requires c =
@@ -49,5 +49,5 @@ put_fields-requires c =
 pub returns : goal.returns
 returns c =
     let at = goal.at.returns c in
-    is_full (text at.Start) c.args.out.now {c = 0} refl (omega arith) (counted at.After-new-smallest) (omega arith)
+    is_full (text at.Start) c.args.out.now {c = 0} refl (counted at.After-new-smallest) (omega arith)
     (c.put_fields.ensures ∙ ap (λ (t : List ℕ). over t c.args.out.now) (told at.After-new-smallest))
