@@ -18,8 +18,9 @@ use Rattle.std.specs.Result.{IsErrAnd}
 use Rattle.std.proofs.lemmas.Result.{err_from_is_err_and}
 use Rattle.sets.specs.Lists.{in_words, words_of}
 use Rattle.sets.proofs.Lists.{in_words-length}
-use Rattle.definitions.specs.Answer.{Outcome, outcome, over, written, written_sets, counted}
-use Rattle.answers.specs.Told.{number_of, told}
+use Rattle.definitions.specs.Answer.{Outcome, outcome_of, outcome, over, written, written_sets, counted}
+use Rattle.answers.specs.Told.{number_of, told, Numbered}
+use Rattle.answers.specs.declared.answer.Answer.{Answer}
 use Rattle.answers.specs.declared.refusal.Refusal.{Refusal}
 use Rattle.answers.specs.declared.refusal.Refusal.TheVariants.{Odd, Atoms, Bonds, End, SelfBond, Twice, Tangled, Room, NotRing}
 
@@ -38,6 +39,10 @@ number-some NotRing = lit< tt
 -- a refusal that is passed on is told
 pub passed : {A : Type 0} (r : Result ℕ Refusal) (e : Refusal) (left : A) → IsErrAnd r (λ d. d ≡ e) → told r left ≡ told (Err e) left
 passed r e left same = let p = err_from_is_err_and r same in ap (λ (t : Result ℕ Refusal). told t left) (p.1 ∙ ap (λ (d : Refusal). Err d) p.2)
+
+-- an answer has the numbers of what is told
+pub numbered : {A : Type 0} {r : Result ℕ Refusal} {a : Answer} {left : A} {o : Outcome A} → Numbered r a → told r left ≡ o → outcome_of a.number a.count left ≡ o
+numbered {left = left} n e = ap₂ (λ (m k : ℕ). outcome_of m k left) n.0 n.1 ∙ e
 
 -- a number above 0 comes after one
 above_zero : (c : ℕ) → 0 < c → (d : ℕ) × (c ≡ suc d)
