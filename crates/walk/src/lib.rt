@@ -25,7 +25,7 @@ fn write_walk(ring: &Ring<'_>, ring_atoms: &mut [u8], ring_bonds: &mut [u8]) -> 
     };
     let closes = ring.comes_round(&mut walk);
     let size = ring.set.size();
-    let short = (ring_atoms.len() < size) | (ring_bonds.len() < size);
+    let short = ring_atoms.len() < size || ring_bonds.len() < size;
     if !closes {
         return Answer {
             number: NOTRING,
