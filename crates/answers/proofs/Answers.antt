@@ -41,8 +41,8 @@ pub passed : {A : Type 0} (r : Result ℕ Refusal) (e : Refusal) (left : A) → 
 passed r e left same = let p = err_from_is_err_and r same in ap (λ (t : Result ℕ Refusal). told t left) (p.1 ∙ ap (λ (d : Refusal). Err d) p.2)
 
 -- an answer has the numbers of what is told
-pub numbered : {A : Type 0} {r : Result ℕ Refusal} {a : Answer} {left : A} {o : Outcome A} → Numbered r a → told r left ≡ o → outcome_of a.number a.count left ≡ o
-numbered {left = left} n e = ap₂ (λ (m k : ℕ). outcome_of m k left) n.0 n.1 ∙ e
+pub numbered : {A : Type 0} (r : Result ℕ Refusal) (a : Answer) (left : A) {o : Outcome A} → Numbered r a → told r left ≡ o → outcome_of a.number a.count left ≡ o
+numbered r a left n e = ap₂ (λ (m k : ℕ). outcome_of m k left) n.0 n.1 ∙ e
 
 -- a number above 0 comes after one
 above_zero : (c : ℕ) → 0 < c → (d : ℕ) × (c ≡ suc d)

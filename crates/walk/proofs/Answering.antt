@@ -1,12 +1,11 @@
 -- The answer: what was noted is what is wanted, each return is the one that the contract names, and the bytes alone say as much as the table.
 -- Assumes nothing.
 use mathlib.Core.Path.{◌≡◌, refl, sym, ap, ap₂, ◌∙◌}
-use mathlib.Core.Logic.{◌⊎◌}
-use mathlib.Core.Bool.{Bool, true, false, cond, ◌&&◌, ◌||◌}
+use mathlib.Core.Bool.{Bool, true, false, cond, ◌&&◌}
 use mathlib.Core.List.{List, ◌∷◌, ◌++◌, map}
-use Prim.Native.Nat.{ℕ, zero, suc, ◌+◌, ◌≤◌, ◌<◌}
+use Prim.Native.Nat.{ℕ, zero, suc, ◌+◌, ◌≤◌}
 use native.Mathlib.Omega.{arith}
-use lib.Dec.{eqb, ltb}
+use lib.Dec.{eqb}
 use lib.ListN.{length, take, drop}
 use lib.Seq.{sets, sets-eq, take_at}
 use Rattle.sets.specs.Bits.{size}
@@ -14,7 +13,7 @@ use Rattle.definitions.specs.Table.{Table, table, refusal, NOTRING}
 use Rattle.definitions.specs.Ring.{degree, ring?}
 use Rattle.definitions.specs.Walk.{other_bond, onward, walk_from, walk_start, walk_of, walk_atoms, walk_bonds}
 use Rattle.definitions.specs.Answer.{Outcome, over, refusal_of_walk, written_both}
-use Rattle.definitions.proofs.Tests.{not_passed, clashes, same_test, Tells, true_of, false_of, tells_ltb, tells_or}
+use Rattle.definitions.proofs.Tests.{not_passed, same_test, true_of}
 use Rattle.definitions.proofs.Refusals.{tells_rooms, walk_kept, walk-free}
 use Rattle.definitions.proofs.Rings.{ring_test}
 use Rattle.std.proofs.Common.{Ok, Err}
@@ -34,14 +33,6 @@ copied : (lent l items : List ℕ) {l' part : List ℕ} {n : ℕ} → l' ≡ set
 unfolding over
 copied lent l items {n = n} h e all few =
     ap₂ (λ (a : List ℕ) (k : ℕ). a ++ drop k lent) (e ∙ ap (take n) (h ∙ sets-eq items l 0 (omega arith)) ∙ take_at items (drop (0 + length items) l) n all) (sym all)
-
--- one of two lists is too short for n items
-abbrev short? : List ℕ × List ℕ → ℕ → Bool
-short? lent n = ltb (length lent.0) n || ltb (length lent.1) n
-
--- as a sentence
-shorts : (lent : List ℕ × List ℕ) (n : ℕ) → Tells (short? lent n) ((length lent.0 < n) ⊎ (length lent.1 < n)) ((n ≤ length lent.0) × (n ≤ length lent.1))
-shorts lent n = tells_or (tells_ltb (length lent.0) n) (tells_ltb (length lent.1) n)
 
 module _ (M : Table) (s : ℕ) (lent : List ℕ × List ℕ) where
   -- c is told, or where it is 0 the lists of the walk are written
@@ -69,21 +60,20 @@ module _ (M : Table) (s : ℕ) (lent : List ℕ × List ℕ) where
       free = ap (λ (b : Bool). cond b 0 NOTRING) (sym e ∙ closes)
 
       -- where one does, that a list is too short
-      pub walked_short : short? lent n ≡ true → told (Err Room) lent ≡ answer number
+      pub walked_short : (n ≤ length lent.0 → n ≤ length lent.1 → ⊥) → told (Err Room) lent ≡ answer number
       unfolding written_both
-      walked_short h =
+      walked_short short =
           outcome_short _ _ _ lent free
           (not_passed _ (λ r.
           let (i, j) = (tells_rooms (walk_atoms M s) (walk_bonds M s) lent.0 lent.1).yes_says r in
-          clashes h (false_of (shorts lent n) (omega (arith, atoms-length M s), omega (arith, bonds-length M s)))))
+          short (omega (arith, atoms-length M s)) (omega (arith, bonds-length M s))))
 
       -- or what was noted is copied
-      pub walked_given : short? lent n ≡ false → (w : Walk) {w' : Walk} {a b : List ℕ} → (t ≡ true → w' ≡ noted w 0 (walk_of M s))
+      pub walked_given : (n ≤ length lent.0) × (n ≤ length lent.1) → (w : Walk) {w' : Walk} {a b : List ℕ} → (t ≡ true → w' ≡ noted w 0 (walk_of M s))
           → n ≤ length w.atoms → n ≤ length w.bonds → a ≡ take n w'.atoms → b ≡ take n w'.bonds
           → told (Ok n) (a ++ drop n lent.0, b ++ drop n lent.1) ≡ answer number
       unfolding written_both walk_atoms walk_bonds
-      walked_given h w noted-is few few' f g =
-          let (i, j) = (shorts lent n).no_says h in
+      walked_given (i, j) w noted-is few few' f g =
           outcome-given _ _ _ lent free
           (true_of (tells_rooms (walk_atoms M s) (walk_bonds M s) lent.0 lent.1) (omega (arith, atoms-length M s), omega (arith, bonds-length M s)))
           (all ∙ sym (atoms-length M s))

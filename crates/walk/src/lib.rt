@@ -30,7 +30,7 @@ fn write_walk(
     };
     let closes = ring.comes_round(&mut walk);
     let size = ring.set.size();
-    let short = (ring_atoms.len() < size) | (ring_bonds.len() < size);
+    let short = ring_atoms.len() < size || ring_bonds.len() < size;
     if !closes {
         return Err(Refusal::NotRing);
     }
