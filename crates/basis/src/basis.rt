@@ -4,6 +4,7 @@ ghost use Rattle.basis.specs.Held.{BasisOf};
 
 use super::climb::{apart, climb_from, join, settle};
 use answers::{ATOM_WORDS, BASIS_WORDS};
+use sets::WordSet;
 use table::{ends_of, refusal_of};
 
 // The number of the refusal, or 0 with the basis rings of a table in order of closure bonds: the first count sets of a list.

@@ -13,7 +13,7 @@ ghost use Rattle.lent.specs.Appended.{Room, Appended, between};
 ghost use Rattle.combining.specs.Gibbs.{clear?, rings_among, combined, Doubled};
 
 use answers::BASIS_WORDS;
-use sets::{BondSet, RingSet};
+use sets::{BondSet, RingSet, WordSet};
 
 // The old sets are followed by the group of a basis ring.
 fn double(sums: &mut [u64], half: usize, ring: BondSet)

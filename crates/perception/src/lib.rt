@@ -7,7 +7,7 @@ ghost use Rattle.perception.specs.Perceiving.{Refused, Perceives};
 
 use answers::{BASIS_WORDS, MAX_ASSEMBLY, MAX_BONDS, TANGLED};
 use basis::{Assemblies, Basis};
-use sets::RingSet;
+use sets::{RingSet, WordSet};
 
 // How many sets such a list holds. It is cleared before it is used, so the shortest is taken that has room. This one is for tables with
 // fewer sums than that, as drug-like ones have.

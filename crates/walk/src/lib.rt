@@ -14,7 +14,7 @@ ghost use Rattle.walking.specs.Closing.{walks?};
 
 use answers::{ATOM_WORDS, Answer, MAX_BONDS, NOTRING, ROOM};
 use round::walk_of;
-use sets::BondSet;
+use sets::{BondSet, WordSet};
 
 // Copies the first n bytes of a list over the start of another.
 fn copy_bytes(from: &[u8], n: usize, to: &mut [u8])

@@ -9,7 +9,7 @@ ghost use Rattle.table.specs.Rows.{Rowed};
 ghost use Rattle.walk.specs.Going.{Standing, OtherIn, Noted, Walked};
 
 use answers::{ATOM_WORDS, MAX_BONDS};
-use sets::BondSet;
+use sets::{BondSet, WordSet};
 use table::ends_of;
 
 // Where a walk stands: it has started at an atom and gone over some bonds, some are left to go, and it leaves an atom by a bond.
