@@ -13,7 +13,7 @@ ghost use Rattle.basis.specs.Clusters.{group_of, joined_by, Grouped, Apart, Pass
 
 use answers::{BASIS_WORDS, MAX_BONDS};
 use sets::list::{sets_in, sets_up_to};
-use sets::{BondSet, RingSet, WORDS};
+use sets::{BondSet, RingSet, WordSet, WORDS};
 
 // The assemblies in order, each as the set of its basis rings: the first count sets.
 #[derive(Clone, Copy)]

@@ -7,7 +7,7 @@ ghost use Rattle.definitions.specs.Table.{max_atoms};
 ghost use Rattle.basis.specs.Climbing.{Falling, Climbs};
 
 use answers::{ATOM_WORDS, MAX_ATOMS};
-use sets::BondSet;
+use sets::{BondSet, WordSet};
 use std::array;
 
 // Where an atom leads at last, and the sum of the ways.

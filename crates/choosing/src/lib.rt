@@ -9,7 +9,7 @@ ghost use Rattle.spans.specs.Elimination.{Rows, Remainder};
 ghost use Rattle.choosing.specs.Elimination.{Eliminated, Stepped, Choosable, Selected};
 
 use answers::BASIS_WORDS;
-use sets::BondSet;
+use sets::{BondSet, WordSet};
 use sets::list::sets_in;
 
 // What is left of a ring when the set kept at its lowest bond is summed with it, as long as there is one.

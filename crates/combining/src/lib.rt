@@ -14,7 +14,7 @@ ghost use Rattle.combining.specs.Gibbs.{clear?, rings_among, combined, Doubled};
 
 use answers::BASIS_WORDS;
 use sets::list::sets_in;
-use sets::{BondSet, RingSet, WORDS};
+use sets::{BondSet, RingSet, WordSet, WORDS};
 
 // The old sets are followed by the group of a basis ring.
 fn double(sums: &mut [u64], half: usize, ring: BondSet)

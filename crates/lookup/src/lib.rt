@@ -8,7 +8,7 @@ ghost use Rattle.sets.specs.Lists.{sets_in};
 ghost use Rattle.lookup.specs.Lookup as spec;
 
 use sets::list::sets_in;
-use sets::{BondSet, WORDS};
+use sets::{BondSet, WORDS, WordSet};
 
 // How many bonds the set at place i has.
 fn bonds_at(list: &[u64], i: usize) -> u64

@@ -6,7 +6,7 @@ ghost use Rattle.sets.specs.Lists.{sets_in};
 ghost use Rattle.definitions.specs.Reduced as spec;
 ghost use Rattle.reduced.specs.Change.{changed?};
 
-use sets::BondSet;
+use sets::{BondSet, WordSet};
 use sets::list::sets_in;
 
 // Is the one set smaller than the other? Sizes decide.

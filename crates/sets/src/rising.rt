@@ -16,7 +16,7 @@ impl Iterator for Rising {
         if self.0 == 0 {
             return None;
         }
-        let least = u64::trailing_zeros(self.0) as usize;
+        let least = self.0.trailing_zeros() as usize;
         self.0 ^= 1 << least;
         Some(least)
     }

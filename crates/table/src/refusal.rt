@@ -8,7 +8,7 @@ ghost use Rattle.table.specs.Rows.{Rowed, Filled, TableTested};
 
 use super::ends::ends_of;
 use answers::{ATOM_WORDS, MAX_ATOMS, MAX_BONDS, Refusal};
-use sets::BondSet;
+use sets::{BondSet, WordSet};
 
 // Has bond k an end that is the atom count or higher?
 fn bad_end(atoms: u64, bonds: &[u8], k: usize) -> bool

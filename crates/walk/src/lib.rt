@@ -14,7 +14,7 @@ ghost use Rattle.walk.specs.Going.{table_of};
 
 use answers::{MAX_BONDS, Refusal};
 use round::{Ring, Walk};
-use sets::BondSet;
+use sets::{BondSet, WordSet};
 
 // Writes the walk round a ring of an accepted table: 9 where one does not come round, then 8 where a list is too short.
 fn write_walk(

@@ -9,7 +9,7 @@ ghost use Rattle.table.specs.Rows.{Rowed};
 ghost use Rattle.walking.specs.Closing.{closes?, walks?};
 
 use answers::{ATOM_WORDS, MAX_BONDS};
-use sets::BondSet;
+use sets::{BondSet, WordSet};
 use table::ends_of;
 
 // The atoms and the bonds of a walk, in order from its start on.
