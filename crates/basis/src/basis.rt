@@ -4,6 +4,7 @@ ghost use Rattle.basis.specs.Held.{BasisOf};
 
 use super::climb::Fragments;
 use answers::{BASIS_WORDS, Refusal};
+use sets::WordSet;
 use table::{accept, ends_of};
 
 // The basis rings of a table in order of closure bonds: the first count sets of a list.

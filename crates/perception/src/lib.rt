@@ -7,6 +7,7 @@ ghost use Rattle.perception.specs.Perceiving.{Perceives};
 
 use answers::{MAX_ASSEMBLY, Refusal};
 use basis::{Assemblies, Basis};
+use sets::WordSet;
 
 // How many sets such a list holds. It is cleared before it is used, so the shortest is taken that has room. This one is for tables with
 // fewer sums than that, as drug-like ones have.
