@@ -24,7 +24,7 @@ whole_by {bs} w =
     rw (le-leb _ _ w.long, eq-eqb _ _ w.atoms, eq-eqb _ _ w.one, eq-eqb _ _ w.bonds, le-leb _ _ w.fits) refl
 
 -- a whole record has them
-pub whole_has : (bs : List ℕ) → whole? bs ≡ true → Whole bs
+whole_has : (bs : List ℕ) → whole? bs ≡ true → Whole bs
 unfolding whole?
 whole_has bs e =
     let a = and_both (leb head_bytes (length bs)) _ e in

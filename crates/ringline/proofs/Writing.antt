@@ -12,7 +12,6 @@ use Rattle.definitions.specs.Answer.{refusal_of_rings}
 use Rattle.definitions.specs.Text.{decimal_in, decimal, hex, space, newline}
 use Rattle.definitions.specs.Ringline.{label_text, end_line, frame_line, record_line}
 use Rattle.records.specs.Spaced.{spaced}
-use Rattle.records.proofs.Writing.{length-spaced}
 use Rattle.ringline.specs.Line.{answer_text, answer_line}
 
 -- ---- how long the lines are
@@ -26,10 +25,6 @@ length-end_line n = omega (arith, length-append (decimal n) (newline ∷ []))
 pub length-frame_line : (n : ℕ) → length (frame_line n) ≡ length (decimal n) + 7
 unfolding frame_line
 length-frame_line n = length-append (decimal n) _
-
--- the number, a space, what is told of the label and the line's end
-pub length-answer_line : (n : ℕ) (label : Result (Bor (List ℕ)) ℕ) → length (answer_line n label) ≡ length (decimal n) + length (answer_text label) + 2
-length-answer_line n label = omega (arith, length-spaced n, length-append (spaced n) (answer_text label ++ (newline ∷ [])), length-append (answer_text label) (newline ∷ []))
 
 -- two numbers, each with a space, the label's text and the line's end
 pub length-record_line : (n : ℕ) (M : Table) → let c = refusal_of_rings M in length (record_line n M) ≡ length (decimal n) + length (decimal c) + length (label_text c (label_of M)) + 3

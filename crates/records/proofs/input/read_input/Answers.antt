@@ -9,6 +9,9 @@ use Rattle.records.proofs.input.read_input.Goals as goal
 pub loop-done-init : goal.loop-done-init
 loop-done-init g c = reading_none _ _
 
+pub loop-done-smaller : goal.loop-done-smaller
+loop-done-smaller g c = omega arith
+
 pub loop-done-preserved : goal.loop-done-preserved
 loop-done-preserved g c =
     let read = c.in_ok-more.ensures in

@@ -12,8 +12,11 @@ use Rattle.lent.proofs.Appending.{appended_as}
 use Rattle.records.proofs.Records.{whole-fits}
 use Rattle.records.proofs.Digits.{decimal-most}
 use Rattle.ringline.proofs.Writing.{length-end_line, length-frame_line}
-use Rattle.ringline.proofs.Printing.{printed_few, printed_more, printed_end, printed_frame, printed_length}
+use Rattle.ringline.proofs.Printing.{printed_none, printed_few, printed_more, printed_end, printed_frame, printed_length}
 use Rattle.ringline.proofs.render.put_lines.Goals as goal
+
+pub loop-first-init : goal.loop-first-init
+loop-first-init c = printed_none _ _ _ (omega arith)
 
 pub put_record-next-requires : goal.put_record-next-requires
 put_record-next-requires c =
