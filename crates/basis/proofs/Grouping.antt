@@ -113,14 +113,6 @@ pub record Passing (rs : List ℕ) (g h : Group) (i : ℕ) : Type 0 where
   pub fewer : Sub h.left g.left
   pub seen : h.left ≡ g.left → (j : ℕ) → j < i → has h.left j ≡ true → meet (get_or rs j 0) h.bonds ≡ false
 
-pub passing_none : (rs : List ℕ) (g : Group) {i : ℕ} → IsNext room g.left 0 i → Passing rs g g i
-passing_none rs g n = record {
-  next = passed_next n;
-  kept = λ first all q. q;
-  fewer = λ j e. e;
-  seen = λ z j l e. clashes e (n.none j (omega arith) l);
-}
-
 module _ {rs : List ℕ} {g h : Group} {i : ℕ} (p : Passing rs g h i) (l : i < room) where
   -- ring i joins: the rings left are not those before the pass
   passing_joins : {q : ℕ} → meet (get_or rs i 0) h.bonds ≡ true → IsNext room (without h.left i) (i + 1) q

@@ -11,11 +11,11 @@ use lib.ListN.{length, get_or, set}
 use lib.Seq.{get_or-set_same, get_or-set_other}
 use lib.Dec.{eqb}
 use borrow.Author.Tests.{eqb-true, eqb-false}
-use Rattle.definitions.specs.Table.{Table, max_atoms}
+use Rattle.definitions.specs.Table.{Table}
 use Rattle.definitions.specs.Basis.{classes, ends_below, fragments}
 use Rattle.definitions.proofs.Tests.{by}
 use Rattle.definitions.proofs.Classes.{merged, merged_other, merged_either, label_none}
-use Rattle.basis.specs.Climbing.{Falling, Climbed, Climbs}
+use Rattle.basis.specs.Climbing.{Climbed, Climbs}
 use Rattle.basis.specs.Climbing.Climbed.{start, on}
 
 -- of n atoms each leads to one of its own number, and one that leads to itself has itself for its number
@@ -57,11 +57,6 @@ climbed-number : {lower ways numbers : List ℕ} {n atom a w : ℕ} → Leads n 
     → get_or numbers a 0 ≡ get_or numbers atom 0
 climbed-number s l start = refl
 climbed-number s l (on {a = a} c h) = s.together a (omega (arith, climbed_low c)) ∙ climbed-number s l c
-
--- it ends at an atom that leads to no lower one
-pub climbed-last : {lower ways : List ℕ} {atom a w : ℕ} → Climbed lower ways atom a w → Falling lower → atom < max_atoms → a ≤ get_or lower a 0
-    → Climbs lower ways atom a w
-climbed-last {a = a} c falls l h = record { climbed = c; last = omega (arith, falls a (omega (arith, climbed_low c))) }
 
 -- so at the number of the atom
 pub climbs_number : {lower ways numbers : List ℕ} {n atom r w : ℕ} → Leads n lower numbers → atom < n → Climbs lower ways atom r w → r ≡ get_or numbers atom 0

@@ -7,7 +7,7 @@ use Rattle.sets.proofs.Machine.{no_bonds_lem}
 use Rattle.definitions.specs.Table.{max_atoms}
 use Rattle.basis.specs.Climbing.{Climbed}
 use Rattle.basis.specs.Climbing.Climbed.{start}
-use Rattle.basis.proofs.Leading.{climbed-on, climbed-last}
+use Rattle.basis.proofs.Leading.{climbed-on}
 use Rattle.basis.proofs.climb.Fragments.climb_from.Goals as goal
 
 pub loop-a-init : goal.loop-a-init
@@ -18,6 +18,3 @@ at-requires c = omega (arith, sets-whole max_atoms c.args.self.now.ways (search 
 
 pub loop-a-preserved : goal.loop-a-preserved
 loop-a-preserved c = (omega (arith, c.loop-a.invariant.0), climbed-on c.loop-a.invariant.1 (omega arith) c.at.ensures c.sum-bonds.ensures)
-
-pub returns : goal.returns
-returns c = climbed-last c.loop-a.invariant.1 c.args.self.now.falling c.requires (omega arith)
