@@ -118,10 +118,6 @@ pub record Left (ws : List ℕ) (s size : ℕ) (rest last : List ℕ) : Type 0 w
   pub same : clear? (sets_in rest) s ≡ clear? (sets_in ws) s
   pub end : last ≡ drop (length rest - length rest % (2 * words)) rest
 
--- before the first turn all are left
-pub left_none : (ws : List ℕ) (s : ℕ) {size : ℕ} {rest last : List ℕ} → size ≡ 2 * words → rest ≡ ws → last ≡ drop (length ws - length ws % (2 * words)) ws → Left ws s size rest last
-left_none ws s e is at = rw (e, is, at) (record { two = refl; same = refl; end = refl })
-
 module _ {ws : List ℕ} {s size : ℕ} {rest last : List ℕ} (h : Left ws s size rest last) where
   module _ (pair rest' : List ℕ) (e : rest ≡ pair ++ rest') (long : length pair ≡ size) where
     -- the pair has two sets
