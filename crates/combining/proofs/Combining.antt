@@ -1,21 +1,25 @@
 -- The group of a basis ring: it is made of the old sets one by one, and each of its sums is tested against the rings found before it.
 -- Assumes nothing.
-use mathlib.Core.Path.{◌≡◌, sym, ap, ap₂, subst, ◌∙◌}
+use mathlib.Core.Path.{◌≡◌, refl, sym, ap, ap₂, ◌∙◌}
 use mathlib.Core.Logic.{◌↔◌, ⊎_elim}
-use mathlib.Core.Bool.{Bool, true, false, not, ◌||◌}
-use mathlib.Core.List.Memᴰ.{not-nil as not-in-nil}
+use mathlib.Core.Bool.{Bool, true, false, not, ◌||◌, ◌&&◌}
+use mathlib.Core.List.Memᴰ
+use mathlib.Core.List.Memᴰ.{append_cases as in-append}
 use mathlib.Core.List.{List, [], ◌∷◌, ◌++◌, append_assoc, map-append, Memᴰ as In}
-use Prim.Native.Nat.{ℕ, suc, ◌+◌, ◌*◌, ◌<◌, ◌≤◌}
+use Prim.Native.Nat.{ℕ, suc, ◌+◌, ◌-◌, ◌*◌, ◌%◌, ◌<◌, ◌≤◌}
 use native.Mathlib.Numerals.{add-one}
 use native.Mathlib.Omega.{arith}
-use lib.ListN.{length, take, get_or, set, length-set, get_or-append}
-use lib.Seq.{take-suc, take-suc-set, take_all, get_or-take, length-take-le}
+use lib.ListN.{length, take, drop, length-append, length-drop, get_or, set, length-set, get_or-append}
+use lib.Seq.{drop_at, drop-drop, take-suc, take-suc-set, get_or-take, length-take-le}
 use lib.Bits.{bit_xor}
 use borrow.Author.Tests.{not-true}
 use Rattle.sets.specs.Bits.{Sub, sub}
+use Rattle.sets.specs.Lists.{sets_in, words}
+use Rattle.sets.proofs.Lists.{sets-whole, sets-append, sets-length, words_are}
 use Rattle.sets.proofs.Size.{sub_test, test_sub}
-use Rattle.definitions.proofs.Tests.{not_passed, clashes, every-at, every_of, by, or-one, or_neither}
-use Rattle.definitions.proofs.Lists.{get_or_in, in_get_or, in_snoc}
+use Rattle.definitions.specs.Search.{every}
+use Rattle.definitions.proofs.Tests.{and_both, not_passed, clashes, every-at, every_of, by}
+use Rattle.definitions.proofs.Lists.{get_or_in, in_get_or}
 use Rattle.combining.specs.Gibbs.{group, clear?}
 
 -- ---- the group is made: the old sets below place j are summed with the ring
@@ -67,50 +71,94 @@ clear_test found s = (
       ap not (not_passed (sub (get_or found j 0) s) (λ u. h (get_or found j 0) (get_or_in found j 0 l) (test_sub _ s u)))),
 )
 
--- none of the first i rings lies inside s
-pub record Tested (rings : List ℕ) (s i : ℕ) : Type 0 where
-  pub none : clear? (take i rings) s ≡ true
+-- that of a list is that of its first part and of the rest
+clear_append : (l m : List ℕ) (s : ℕ) → clear? (l ++ m) s ≡ clear? l s && clear? m s
+clear_append l m s =
+    by (clear? l s && clear? m s)
+    (λ q. let (x, y) = and_both (clear? l s) (clear? m s) q in
+    rw q ((clear_test (l ++ m) s).1 (λ t i. ⊎_elim ((clear_test l s).0 x t) ((clear_test m s).0 y t) (in-append l i))))
+    (λ q. rw q (not_passed (clear? (l ++ m) s) (λ c.
+    let x = (clear_test l s).1 (λ t i. (clear_test (l ++ m) s).0 c t (Memᴰ.append_left m i)) in
+    let y = (clear_test m s).1 (λ t i. (clear_test (l ++ m) s).0 c t (Memᴰ.append_right l i)) in
+    clashes (ap₂ (λ a b. a && b) x y) q)))
 
--- none is looked at yet
-pub tested_none : (rings : List ℕ) (s : ℕ) → Tested rings s 0
-tested_none rings s = record { none = (clear_test [] s).1 (λ t i. absurd (not-in-nil i)) }
+-- that of no ring passes
+clear_none : (l : List ℕ) (s : ℕ) → length l ≡ 0 → clear? l s ≡ true
+unfolding clear? every
+clear_none [] s e = refl
+clear_none (x ∷ l) s e = absurd (omega arith)
 
-module _ {rings : List ℕ} {s i : ℕ} (u : Tested rings s i) where
-  -- the next ring does not lie inside s
-  one_more : {w : ℕ} {r : Bool} → i < length rings → w ≡ get_or rings i 0 → r ≡ sub w s → r ≡ false → Tested rings s (i + 1)
-  one_more {w} h e t q = record {
-    none =
-        (clear_test (take (i + 1) rings) s).1
-        (λ x m. ⊎_elim ((clear_test (take i rings) s).0 u.none x)
-        (λ z inside. clashes (sub_test x s inside) (ap (λ y. sub y s) (z ∙ sym e) ∙ sym t ∙ q))
-        (in_snoc (take i rings) (rw (add-one, take-suc rings i 0 h) at m)));
-  }
+-- that of one ring is whether it does not lie inside s
+clear_one : (l : List ℕ) (s : ℕ) {w : ℕ} {r : Bool} → length l ≡ 1 → w ≡ get_or l 0 0 → r ≡ sub w s → clear? l s ≡ not r
+unfolding clear? every
+clear_one [] s e is t = absurd (omega arith)
+clear_one (x ∷ []) s e is t = rw (t, is) (settled (not (sub x s)))
+  where
+    settled : (b : Bool) → elim b [ true ↦ true | false ↦ false ] ≡ b
+    settled true = refl
+    settled false = refl
+clear_one (x ∷ y ∷ l) s e is t = absurd (omega arith)
 
-  -- none does
-  pub tested_all : length rings ≤ i → true ≡ clear? rings s
-  tested_all h = sym u.none ∙ ap (λ l. clear? l s) (take_all i rings h)
+-- that of two is whether neither does
+clear_pair : (l : List ℕ) (s : ℕ) {w w' : ℕ} {r r' : Bool} → length l ≡ 2 → w ≡ get_or l 0 0 → w' ≡ get_or l 1 0 → r ≡ sub w s → r' ≡ sub w' s
+    → clear? l s ≡ not (r || r')
+clear_pair [] s e i j t u = absurd (omega arith)
+clear_pair (x ∷ []) s e i j t u = absurd (omega arith)
+clear_pair (x ∷ y ∷ []) s {r = r} {r' = r'} e i j t u =
+    clear_append (x ∷ []) (y ∷ []) s ∙ ap₂ (λ a b. a && b) (clear_one (x ∷ []) s refl i t) (clear_one (y ∷ []) s refl j u) ∙ neither r r'
+  where
+    neither : (a b : Bool) → not a && not b ≡ not (a || b)
+    neither true b = refl
+    neither false b = refl
+clear_pair (x ∷ y ∷ z ∷ l) s e i j t u = absurd (omega arith)
 
--- a ring lies inside s
-broken : (rings : List ℕ) (s : ℕ) {j w : ℕ} {r : Bool} → j < length rings → w ≡ get_or rings j 0 → r ≡ sub w s → r ≡ true → false ≡ clear? rings s
-broken rings s {j} h e t q =
-    sym (not_passed (clear? rings s) (λ c.
-    (clear_test rings s).0 c (get_or rings j 0) (get_or_in rings j 0 h) (test_sub _ s (ap (λ y. sub y s) (sym e) ∙ sym t ∙ q))))
+-- the words that are left of a list, from which two sets are taken in a turn: its sets decide, and their end is the last words of the list
+pub record Left (ws : List ℕ) (s size : ℕ) (rest last : List ℕ) : Type 0 where
+  pub two : size ≡ 2 * words
+  pub same : clear? (sets_in rest) s ≡ clear? (sets_in ws) s
+  pub end : last ≡ drop (length rest - length rest % (2 * words)) rest
 
--- the next two rings, and whether they lie inside s
-module _ {rings : List ℕ} {s : ℕ} (k : ℕ) (u : Tested rings s (2 * k)) {w w' : ℕ} {r r' : Bool}
-    (h : 2 * k + 1 < length rings) (e : w ≡ get_or rings (2 * k) 0) (e' : w' ≡ get_or rings (2 * k + 1) 0) (t : r ≡ sub w s) (t' : r' ≡ sub w' s) where
-  -- one turn: neither does
-  pub tested_more : r || r' ≡ false → Tested rings s (2 * (k + 1))
-  tested_more q =
-      let (x, y) = or_neither r r' q in
-      subst (Tested rings s) (omega arith) (one_more (one_more u (omega arith) e t x) h e' t' y)
+module _ {ws : List ℕ} {s size : ℕ} {rest last : List ℕ} (h : Left ws s size rest last) where
+  module _ (pair rest' : List ℕ) (e : rest ≡ pair ++ rest') (long : length pair ≡ size) where
+    -- the pair has two sets
+    pub pair_two : length (sets_in pair) ≡ 2
+    pair_two = sets-whole 2 pair (long ∙ h.two)
 
-  -- one of them does
-  pub tested_broken : r || r' ≡ true → false ≡ clear? rings s
-  tested_broken q = ⊎_elim (broken rings s (omega arith) e t) (broken rings s h e' t') (or-one r r' q)
+    module _ {w w' : ℕ} {r r' : Bool} (i : w ≡ get_or (sets_in pair) 0 0) (j : w' ≡ get_or (sets_in pair) 1 0) (t : r ≡ sub w s) (u : r' ≡ sub w' s) where
+      parts : clear? (sets_in ws) s ≡ not (r || r') && clear? (sets_in rest') s
+      parts =
+          sym h.same
+          ∙ ap (λ l. clear? l s) (ap sets_in e ∙ sets-append 2 pair rest' (long ∙ h.two ∙ sym (words_are 2)))
+          ∙ clear_append (sets_in pair) (sets_in rest') s
+          ∙ ap (λ b. b && clear? (sets_in rest') s) (clear_pair (sets_in pair) s pair_two i j t u)
 
--- the last ring decides
-pub tested_last : {rings : List ℕ} {s i w : ℕ} {r : Bool} (j : ℕ) → Tested rings s i → i ≡ j → j < length rings → length rings ≤ j + 1 → w ≡ get_or rings j 0 → r ≡ sub w s
-    → not r ≡ clear? rings s
-tested_last {rings} {s} {r = r} j u at h l e t =
-    by r (λ q. rw q (broken rings s h e t q)) (λ q. rw q (tested_all (one_more (subst (Tested rings s) at u) h e t q) l))
+      -- one of them lies inside s
+      pub left_broken : r || r' ≡ true → false ≡ clear? (sets_in ws) s
+      left_broken q = sym (rw q at parts)
+
+      -- neither does
+      pub left_more : {size' : ℕ} → r || r' ≡ false → size' ≡ size → Left ws s size' rest' last
+      left_more q a = rw a (record {
+        two = h.two;
+        same = sym (rw q at parts);
+        end = h.end ∙ ap (λ l. drop (length l - length l % (2 * words)) l) e ∙ ap (λ k. drop k (pair ++ rest')) back ∙ sym (drop-drop (length rest' - length rest' % (2 * words)) (length pair) (pair ++ rest')) ∙ ap (drop (length rest' - length rest' % (2 * words))) (drop_at pair rest' (length pair) refl);
+      })
+        where
+          back : length (pair ++ rest') - length (pair ++ rest') % (2 * words) ≡ length pair + (length rest' - length rest' % (2 * words))
+          back = omega (arith, length-append pair rest', h.two, long)
+
+  -- at the end the last words are left
+  module _ (few : length rest < size) where
+    left_last : clear? (sets_in last) s ≡ clear? (sets_in ws) s
+    left_last = ap (λ l. clear? (sets_in l) s) (h.end ∙ ap (λ k. drop k rest) (let z : length rest - length rest % (2 * words) ≡ 0 = omega (arith, h.two) in z)) ∙ h.same
+
+    one_at_most : length (sets_in last) ≤ 1
+    one_at_most = omega (arith, sets-length last, ap length h.end, length-drop (length rest - length rest % (2 * words)) rest, h.two)
+
+    -- which have one set
+    pub left_one : {w : ℕ} {r : Bool} → 0 < length (sets_in last) → w ≡ get_or (sets_in last) 0 0 → r ≡ sub w s → not r ≡ clear? (sets_in ws) s
+    left_one some i t = sym (clear_one (sets_in last) s (omega (arith, one_at_most)) i t) ∙ left_last
+
+    -- or none
+    pub left_all : length (sets_in last) ≤ 0 → true ≡ clear? (sets_in ws) s
+    left_all none = sym (clear_none (sets_in last) s (omega arith)) ∙ left_last

@@ -32,16 +32,17 @@ fn double(sums: &mut [u64], half: usize, ring: BondSet)
 fn is_ring(rings: &[u64], sum: BondSet) -> bool
     ensures { result ≡ clear? (sets_in rings.now) (bits sum) }
 {
-    let pairs = sets_in(rings) / 2;
-    for pair in 0..pairs {
-        let one = BondSet::at(rings, 2 * pair).inside(sum);
-        let next = BondSet::at(rings, 2 * pair + 1).inside(sum);
+    let pairs = rings.chunks_exact(2 * WORDS);
+    let last = pairs.remainder();
+    for pair in pairs {
+        let one = BondSet::at(pair, 0).inside(sum);
+        let next = BondSet::at(pair, 1).inside(sum);
         if one | next {
             return false;
         }
     }
-    if 2 * pairs < sets_in(rings) {
-        return !BondSet::at(rings, 2 * pairs).inside(sum);
+    if sets_in(last) > 0 {
+        return !BondSet::at(last, 0).inside(sum);
     }
     true
 }

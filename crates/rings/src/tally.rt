@@ -47,7 +47,8 @@ pub(crate) fn count_assembly(
     let all_found = &found[..n * WORDS];
     let top = count_sizes(all_found, all, 0);
     order_rings(all_found, ordered);
+    let in_order = &ordered[..n * WORDS];
     let mut taken = [0u64; BASIS_WORDS];
-    let chosen = smallest_of(&ordered[..n * WORDS], members.size(), &mut taken);
+    let chosen = smallest_of(in_order, members.size(), &mut taken);
     count_sizes(&taken[..chosen * WORDS], smallest, top)
 }

@@ -20,12 +20,12 @@ pub slice_bounds-all_found-end-2 : goal.slice_bounds-all_found-end-2
 slice_bounds-all_found-end-2 c = let record { sums = kept; found = long; added = added } = c.add_assembly-n.ensures in
     firsts_words c.add_assembly-n.result _ (alone_within c.requires.0 added (as_many-sets _ long))
 
-pub slice_bounds-smallest_of-end : goal.slice_bounds-smallest_of-end
-slice_bounds-smallest_of-end c = let record { sums = kept; found = long; added = added } = c.add_assembly-n.ensures in
+pub slice_bounds-in_order-end : goal.slice_bounds-in_order-end
+slice_bounds-in_order-end c = let record { sums = kept; found = long; added = added } = c.add_assembly-n.ensures in
     firsts_room c.add_assembly-n.result _ (alone_within c.requires.1 added (as_many-sets _ (c.order_rings.ensures.0 ∙ kept)))
 
-pub slice_bounds-smallest_of-end-2 : goal.slice_bounds-smallest_of-end-2
-slice_bounds-smallest_of-end-2 c = let record { sums = kept; found = long; added = added } = c.add_assembly-n.ensures in
+pub slice_bounds-in_order-end-2 : goal.slice_bounds-in_order-end-2
+slice_bounds-in_order-end-2 c = let record { sums = kept; found = long; added = added } = c.add_assembly-n.ensures in
     firsts_words c.add_assembly-n.result _ (alone_within c.requires.1 added (as_many-sets _ (c.order_rings.ensures.0 ∙ kept)))
 
 pub count_sizes-top-requires : goal.count_sizes-top-requires
