@@ -8,6 +8,3 @@ list_rings-all-requires g c = search (rules, listable_held)
 
 pub write-requires : goal.write-requires
 write-requires g c = let listed = c.list_rings-all.ensures in (listed.few, rw listed.list c.requires.0)
-
-pub returns : goal.returns
-returns g c = rw c.list_rings-all.ensures.list at c.write.ensures
