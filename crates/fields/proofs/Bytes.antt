@@ -5,7 +5,7 @@ use Prim.Native.Nat.{ℕ, zero, suc, ◌+◌, ◌-◌, ◌*◌, ◌/◌, ◌%◌
 use native.Mathlib.Nat.{zero-add, div-div-eq-div-mul, pow-succ'}
 use native.Mathlib.Omega.{arith}
 use lib.ListN.{length, get_or, take, drop, length-append}
-use lib.Seq.{take-suc, take_all, length-take-le}
+use lib.Seq.{take-suc, take_all}
 use Rattle.std.specs.Int.{bytes_high_first, byte_at}
 use Rattle.definitions.specs.Search.{gather}
 use Rattle.definitions.specs.Label.{bytes_of, bytes_of_all}
@@ -48,10 +48,6 @@ pub length-bytes_of_all : (n : ℕ) (l : List ℕ) → length (bytes_of_all n l)
 unfolding bytes_of_all
 length-bytes_of_all n [] = omega arith
 length-bytes_of_all n (x ∷ l) = length-append (bytes_of n x) (bytes_of_all n l) ∙ omega (arith, length-bytes_of n x, length-bytes_of_all n l)
-
--- and its first k numbers have k times as many
-pub numbers_bytes : (n : ℕ) (l : List ℕ) (k : ℕ) → k ≤ length l → k * n ≡ length (bytes_of_all n (take k l))
-numbers_bytes n l k h = ap (λ (j : ℕ). j * n) (sym (length-take-le k l h)) ∙ sym (length-bytes_of_all n (take k l))
 
 -- they are gathered from those of each
 pub bytes_of_all-gather : (n : ℕ) (l : List ℕ) → bytes_of_all n l ≡ gather (length l) (λ i. bytes_of n (get_or l i 0))
