@@ -28,7 +28,7 @@ pub enum Tag {
 
 impl Tag {
     // The byte that a field starts with.
-    fn byte(self) -> u8
+    pub fn byte(self) -> u8
         ensures { result ≡ tag_byte self }
     {
         self as u8
@@ -42,17 +42,17 @@ const LENGTH: usize = 2;
 pub const HEAD: usize = 1 + LENGTH;
 
 // The head of a field with so many bytes of content.
-pub fn put_head(tag: Tag, content: usize, writer: &mut Writer)
+pub fn put_head(tag: u8, content: usize, writer: &mut Writer)
     requires { writer.old.at + 3 ≤ length writer.old.out.now }
-    ensures { Writes (tag_byte tag ∷ bytes_of 2 content) writer.old writer.new }
+    ensures { Writes (tag ∷ bytes_of 2 content) writer.old writer.new }
 {
-    put_tagged(tag.byte(), LENGTH, content as u64, writer);
+    put_tagged(tag, LENGTH, content as u64, writer);
 }
 
 // A field of numbers, each in so many bytes.
-pub fn put_number_field(tag: Tag, width: usize, numbers: &[u64], writer: &mut Writer)
-    requires { (width ≤ 8) × Fits (field (tag_byte tag) (bytes_of_all width numbers.now)) writer.old }
-    ensures { Writes (field (tag_byte tag) (bytes_of_all width numbers.now)) writer.old writer.new }
+pub fn put_number_field(tag: u8, width: usize, numbers: &[u64], writer: &mut Writer)
+    requires { (width ≤ 8) × Fits (field tag (bytes_of_all width numbers.now)) writer.old }
+    ensures { Writes (field tag (bytes_of_all width numbers.now)) writer.old writer.new }
 {
     put_head(tag, numbers.len() * width, writer);
     put_numbers(width, numbers, writer);

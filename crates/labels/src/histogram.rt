@@ -4,10 +4,9 @@ ghost use Rattle.std.specs.Prelude.{◌≡◌, ◌+◌, ◌*◌, ◌≤◌, ◌<
 ghost use Rattle.definitions.specs.Table.{all_sizes};
 ghost use Rattle.definitions.specs.Label.{field};
 ghost use Rattle.lent.specs.Writes.{Fits, Writes};
-ghost use Rattle.fields.specs.Tags.{tag_byte};
 ghost use Rattle.labels.specs.Sizes as spec;
 
-use fields::{Tag, put_head, put_tagged};
+use fields::{put_head, put_tagged};
 use lent::Writer;
 
 // The counts of a histogram, the bytes that each takes, and the bytes of all its lines.
@@ -63,9 +62,9 @@ impl<'a> Histogram<'a> {
     }
 
     // A field of it.
-    pub(crate) fn put_field(&self, tag: Tag, writer: &mut Writer)
-        requires { Fits (field (tag_byte tag) (spec.lines self.now.width self.now.counts.now)) writer.old }
-        ensures { Writes (field (tag_byte tag) (spec.lines self.now.width self.now.counts.now)) writer.old writer.new }
+    pub(crate) fn put_field(&self, tag: u8, writer: &mut Writer)
+        requires { Fits (field tag (spec.lines self.now.width self.now.counts.now)) writer.old }
+        ensures { Writes (field tag (spec.lines self.now.width self.now.counts.now)) writer.old writer.new }
     {
         put_head(tag, self.bytes, writer);
         self.put_lines(writer);

@@ -32,10 +32,10 @@ fn put_fields(
     ensures { out.new ≡ over (fields_of frerejacque (lines rings.now.width rings.now.counts.now) (lines smallest.now.width smallest.now.counts.now) pairs.now) out.old }
 {
     let mut writer = Writer::new(out);
-    put_number_field(Tag::Frerejacque, 1, &[frerejacque], &mut writer);
-    rings.put_field(Tag::Rings, &mut writer);
-    smallest.put_field(Tag::Smallest, &mut writer);
-    put_number_field(Tag::Assemblies, PAIR, pairs, &mut writer);
+    put_number_field(Tag::Frerejacque.byte(), 1, &[frerejacque], &mut writer);
+    rings.put_field(Tag::Rings.byte(), &mut writer);
+    smallest.put_field(Tag::Smallest.byte(), &mut writer);
+    put_number_field(Tag::Assemblies.byte(), PAIR, pairs, &mut writer);
 }
 
 // The label, from the Frerejacque number, how many rings and how many smallest rings have each size, and the assemblies' pairs.

@@ -6,10 +6,11 @@ ghost use Rattle.sets.specs.Bond.{bits};
 ghost use Rattle.sets.specs.Lists.{sets_in};
 ghost use Rattle.definitions.specs.Table.{table, refusal};
 ghost use Rattle.definitions.specs.Label.{bytes_of, bytes_of_all, field, sidecar_tag, set_bytes, sidecar_of};
-ghost use Rattle.definitions.specs.Answer.{outcome_of, written};
+ghost use Rattle.definitions.specs.Answer.{written};
+ghost use Rattle.answers.specs.Told.{told};
 ghost use Rattle.lent.specs.Writes.{Fits, Writes};
 
-use answers::{Answer, ROOM};
+use answers::Refusal;
 use fields::{HEAD, Tag, put_head, put_number};
 use lent::Writer;
 use sets::list::sets_in;
@@ -38,34 +39,25 @@ fn put_sets(sets: &[u64], writer: &mut Writer)
 }
 
 // The sidecar of the sets of a list.
-fn write_sidecar(sets: &[u64], out: &mut [u8]) -> Answer
-    ensures { outcome_of result.number result.count out.new ≡ written 0 (field sidecar_tag (bytes_of_all set_bytes (sets_in sets.now))) out.old }
+fn write_sidecar(sets: &[u64], out: &mut [u8]) -> Result<usize, Refusal>
+    ensures { told result out.new ≡ written 0 (field sidecar_tag (bytes_of_all set_bytes (sets_in sets.now))) out.old }
 {
     let content = SET * sets_in(sets);
     let count = HEAD + content;
     if out.len() < count {
-        return Answer {
-            number: ROOM,
-            count: 0,
-        };
+        return Err(Refusal::Room);
     }
     let mut writer = Writer::new(out);
-    put_head(Tag::Reduced, content, &mut writer);
+    put_head(Tag::Reduced.byte(), content, &mut writer);
     put_sets(sets, &mut writer);
-    Answer { number: 0, count }
+    Ok(count)
 }
 
 // The sidecar: one field with the reduced basis.
-pub fn sidecar(atoms: u64, bonds: &[u8], out: &mut [u8]) -> Answer
-    ensures answer { outcome_of result.number result.count out.new ≡ written (refusal (table atoms bonds.now)) (sidecar_of (table atoms bonds.now)) out.old }
+pub fn sidecar(atoms: u64, bonds: &[u8], out: &mut [u8]) -> Result<usize, Refusal>
+    ensures answer { told result out.new ≡ written (refusal (table atoms bonds.now)) (sidecar_of (table atoms bonds.now)) out.old }
     ensures read { bonds.exit.now ≡ bonds.entry.now }
 {
-    let found = reduced::reduce(atoms, bonds);
-    if found.number > 0 {
-        return Answer {
-            number: found.number,
-            count: 0,
-        };
-    }
+    let found = reduced::reduce(atoms, bonds)?;
     write_sidecar(&found.sets[..found.count * WORDS], out)
 }

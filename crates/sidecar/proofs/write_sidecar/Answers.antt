@@ -36,7 +36,7 @@ pub overflow_add-count : goal.overflow_add-count
 overflow_add-count c = omega (arith, c.sets_in-content.ensures, sets-length c.args.sets.now)
 
 pub returns-then-out-count : goal.returns-then-out-count
-returns-then-out-count c = is_short _ c.args.out.now {c = 0} refl (omega arith) (whole (goal.at.returns-then-out-count c).After-sets_in-content) (omega arith)
+returns-then-out-count c = is_short _ c.args.out.now {c = 0} refl (whole (goal.at.returns-then-out-count c).After-sets_in-content) (omega arith)
 
 pub put_sets-requires : goal.put_sets-requires
 put_sets-requires c =
@@ -51,4 +51,4 @@ returns c =
     let written : c.put_sets.new.writer.out.now ≡ over (field sidecar_tag (content c.args.sets.now)) c.args.out.now =
     writes_over writer.start writer.list
     (field_written sidecar_tag (content c.args.sets.now) _ (omega (arith, whole at, ap length writer.list, writer.start)) (counted at) c.put_head.ensures c.put_sets.ensures) in
-    is_full _ c.args.out.now {c = 0} refl (omega arith) (whole at) (omega arith) (search (rules, written))
+    is_full _ c.args.out.now {c = 0} refl (whole at) (omega arith) (search (rules, written))
