@@ -42,7 +42,7 @@ pub put_sets-requires : goal.put_sets-requires
 put_sets-requires c =
     let at = (goal.at.put_sets-requires c).After-sets_in-content in
     let writer = c.new-writer.ensures in
-    content_fits sidecar_tag (content c.args.sets.now) _ (omega (arith, whole at, ap length writer.list, writer.start)) (counted at) c.put_head.ensures
+    content_fits sidecar_tag (content c.args.sets.now) _ (omega (arith, whole at, ap length writer.list, writer.start)) (counted at) (rw c.byte.ensures at c.put_head.ensures)
 
 pub returns : goal.returns
 returns c =
@@ -50,5 +50,5 @@ returns c =
     let writer = c.new-writer.ensures in
     let written : c.put_sets.new.writer.out.now ≡ over (field sidecar_tag (content c.args.sets.now)) c.args.out.now =
     writes_over writer.start writer.list
-    (field_written sidecar_tag (content c.args.sets.now) _ (omega (arith, whole at, ap length writer.list, writer.start)) (counted at) c.put_head.ensures c.put_sets.ensures) in
+    (field_written sidecar_tag (content c.args.sets.now) _ (omega (arith, whole at, ap length writer.list, writer.start)) (counted at) (rw c.byte.ensures at c.put_head.ensures) c.put_sets.ensures) in
     is_full _ c.args.out.now {c = 0} refl (whole at) (omega arith) (search (rules, written))

@@ -2,4 +2,4 @@
 use Rattle.fields.proofs.field.put_head.Goals as goal
 
 pub returns : goal.returns
-returns c = rw (← c.byte.ensures) c.put_tagged.ensures
+returns c = c.put_tagged.ensures

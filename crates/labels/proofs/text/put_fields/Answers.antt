@@ -12,5 +12,7 @@ returns c =
     let a = c.args in
     let written : c.put_number_field-2.new.writer.out.now ≡ over (fields_of a.frerejacque (lines a.rings.now.width a.rings.now.counts.now) (lines a.smallest.now.width a.smallest.now.counts.now) a.pairs.now) a.out.now =
     writes_over c.new-writer.ensures.start c.new-writer.ensures.list
-    (writes_more c.put_number_field.ensures (writes_more c.put_field.ensures (writes_more c.put_field-2.ensures c.put_number_field-2.ensures))) in
+    (writes_more (rw c.byte.ensures at c.put_number_field.ensures)
+    (writes_more (rw c.byte-2.ensures at c.put_field.ensures)
+    (writes_more (rw c.byte-3.ensures at c.put_field-2.ensures) (rw c.byte-4.ensures at c.put_number_field-2.ensures)))) in
     search (rules, written)
