@@ -1,41 +1,67 @@
 -- The assembly of each basis ring, written assembly after assembly: before each turn of either loop the places of the rings that are passed
 -- have their numbers, and the others are as lent. Assumes nothing.
 use mathlib.Core.Path.{◌≡◌, refl, sym, ap, ◌∙◌}
+use mathlib.Core.Logic.{⊎_elim}
 use mathlib.Core.Bool.{Bool, true, false, ◌&&◌, cond}
-use mathlib.Core.List.{List}
-use Prim.Native.Nat.{ℕ, ◌+◌, ◌-◌, ◌≤◌, ◌<◌}
+use mathlib.Core.List.Memᴰ
+use mathlib.Core.List.Memᴰ.{not-nil as not-in-nil}
+use mathlib.Core.List.{List, [], ◌∷◌, ◌++◌, Memᴰ as In}
+use Prim.Native.Nat.{ℕ, ◌+◌, ◌-◌, ◌^◌, ◌≤◌, ◌<◌}
 use native.Mathlib.Omega.{arith}
 use borrow.Author.Tests.{eqb-true, eqb-false, ltb-true, ltb-false, lt-ltb, le-ltb}
 use lib.Dec.{eqb, ltb}
-use lib.ListN.{length, get_or, drop, get_or-append}
-use lib.Seq.{get_or-append-add, get_or-drop, ext_get_or}
+use lib.ListN.{length, get_or, drop, set, length-set, get_or-append}
+use lib.Seq.{get_or-append-add, get_or-drop, get_or-set_same, get_or-set_other, ext_get_or}
 use Rattle.sets.specs.Bits.{has}
-use Rattle.sets.specs.Ring.{bits, no_rings}
+use Rattle.sets.specs.Ring.{bits, no_rings, room}
+use Rattle.sets.specs.Rising.{rising}
+use Rattle.sets.proofs.Laws.{member_below}
 use Rattle.definitions.specs.Table.{Table}
 use Rattle.definitions.specs.Basis.{basis_rings}
 use Rattle.definitions.specs.Assembly.{assemblies_of, assemblies}
 use Rattle.definitions.specs.Answer.{over}
-use Rattle.definitions.proofs.Tests.{by, and_both, both_and, same_test}
+use Rattle.definitions.proofs.Tests.{by, clashes}
+use Rattle.definitions.proofs.Lists.{in_snoc, in_last}
 use Rattle.definitions.proofs.Linking.{number, length-assemblies, number_below}
 use Rattle.lent.proofs.Appending.{over-length}
 use Rattle.basis.specs.Held.{rings_of, Holds, members_of, AssembliesOf}
 use Rattle.basis.specs.Clusters.{Numbered}
 use Rattle.basis.specs.declared.assembly.Assemblies.{Assemblies}
 use Rattle.basis.specs.declared.basis.Basis.{Basis}
+use Rattle.basis.proofs.Taken.{in_rising}
 use Rattle.basis.proofs.Holding.{held_assemblies, members-at, members-has, members_below}
 
 -- ---- the rings of one assembly
 
--- the members of s below i are passed
-abbrev pub Marked : ℕ → ℕ → ℕ → List ℕ → List ℕ → Type 0
-Marked s a i before after = Numbered (λ j. has s j && ltb j i) (λ j. a) before after
+-- the places taken so far have the number a
+pub record Marked (a : ℕ) (xs before after : List ℕ) : Type 0 where
+  pub long : length after ≡ length before
+  pub taken : (j : ℕ) → In j xs → get_or after j 0 ≡ a
+  pub other : (j : ℕ) → (In j xs → ⊥) → get_or after j 0 ≡ get_or before j 0
 
--- after the last member each has it
-pub marked_all : {m a i : ℕ} {l out : List ℕ} (s : ℕ) → ((j : ℕ) → has s j ≡ true → j < m) → m ≤ i → Marked s a i l out → Numbered (has s) (λ j. a) l out
-marked_all {a = a} {i = i} {l = l} s below h q = record {
-  long = q.long;
-  at = λ j. q.at j ∙ ap (λ (b : Bool). cond b a (get_or l j 0)) (same_test _ _ (λ e. (and_both (has s j) (ltb j i) e).0) (λ e. both_and e (lt-ltb j i (omega (arith, below j e)))));
-}
+-- before the first
+pub marked_none : (a : ℕ) (l : List ℕ) → Marked a [] l l
+marked_none a l = record { long = refl; taken = λ j i. absurd (not-in-nil i); other = λ j n. refl }
+
+module _ {a : ℕ} {xs l out : List ℕ} (q : Marked a xs l out) where
+  -- one more
+  pub marked_more : {k : ℕ} → k < length out → Marked a (xs ++ (k ∷ [])) l (set out k a)
+  marked_more {k} h = record {
+    long = length-set out k a ∙ q.long;
+    taken = λ j i.
+        by (eqb j k) (λ e. rw (eqb-true j k e) (get_or-set_same out k a 0 h))
+        (λ e. get_or-set_other out k j a 0 (eqb-false j k e) ∙ q.taken j (⊎_elim (λ t. t) (λ is. absurd (eqb-false j k e is)) (in_snoc xs i)));
+    other = λ j n. get_or-set_other out k j a 0 (λ is. n (rw is (in_last xs k))) ∙ q.other j (λ i. n (Memᴰ.append_left (k ∷ []) i));
+  }
+
+  -- after the last each member has it
+  pub marked_all : {s : ℕ} → s < 2 ^ room → xs ≡ rising room s → Numbered (has s) (λ j. a) l out
+  marked_all {s} b done = record {
+    long = q.long;
+    at = λ j.
+        by (has s j) (λ e. rw e (q.taken j (rw done ((in_rising room s j).1 (member_below room j b e, e)))))
+        (λ e. rw e (q.other j (λ i. clashes ((in_rising room s j).0 (rw done at i)).1 e)));
+  }
 
 -- ---- the assemblies in order
 

@@ -13,7 +13,7 @@ ghost use Rattle.basis.specs.Clusters.{group_of, joined_by, Grouped, Apart, Pass
 
 use answers::{BASIS_WORDS, MAX_BONDS};
 use sets::list::{sets_in, sets_up_to};
-use sets::{BondSet, RingSet, WordSet, WORDS};
+use sets::{BondSet, RingSet, WORDS, WordSet};
 
 // The assemblies in order, each as the set of its basis rings: the first count sets.
 #[derive(Clone, Copy)]
@@ -52,10 +52,8 @@ impl Cluster {
         ensures { Pass (sets_in rings.now) (group_of self) (group_of result) }
     {
         let mut cluster = self;
-        let mut i = cluster.left.next(0);
-        while i <= RingSet::LAST {
+        for i in self.left {
             cluster = cluster.joined(i, BondSet::at(rings, i));
-            i = cluster.left.next(i + 1);
         }
         cluster
     }
@@ -116,10 +114,8 @@ fn number_members(members: RingSet, a: u8, out: &mut [u8])
     requires { (i : ℕ) → has (ring_bits members) i ≡ true → i < length out.old }
     ensures { Numbered (has (ring_bits members)) (λ i. a) out.old out.new }
 {
-    let mut i = members.next(0);
-    while i <= RingSet::LAST {
+    for i in members {
         out[i] = a;
-        i = members.next(i + 1);
     }
 }
 

@@ -14,7 +14,7 @@ ghost use Rattle.combining.specs.Gibbs.{clear?, rings_among, combined, Doubled};
 
 use answers::BASIS_WORDS;
 use sets::list::sets_in;
-use sets::{BondSet, RingSet, WordSet, WORDS};
+use sets::{BondSet, RingSet, WORDS, WordSet};
 
 // The old sets are followed by the group of a basis ring.
 fn double(sums: &mut [u64], half: usize, ring: BondSet)
@@ -89,12 +89,10 @@ pub fn add_assembly(
     BondSet::EMPTY.put_at(sums, 0);
     let mut half: usize = 1;
     let mut count = n;
-    let mut i = members.next(0);
-    while i <= RingSet::LAST {
+    for i in members {
         double(sums, half, BondSet::at(rings, i));
         count = add_group(&sums[half * WORDS..(half + half) * WORDS], found, n, count);
         half = half + half;
-        i = members.next(i + 1);
     }
     count
 }
