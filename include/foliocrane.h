@@ -56,12 +56,12 @@ foliocrane_answer foliocrane_basis_rings(uint64_t atoms, const uint8_t *bonds, s
 /* The assembly of each basis ring. At most 64 bytes. Stack: 4,760 bytes. */
 foliocrane_answer foliocrane_assemblies(uint64_t atoms, const uint8_t *bonds, size_t bonds_len, uint8_t *out, size_t out_len);
 
-/* All rings, the smaller first, and of one size the lower word. At most 6,547 words. Stack: 7,064 bytes with few sums, at most
-   112,424. */
+/* All rings, the smaller first, and of one size the lower word. At most 6,547 words. Stack: 6,408 bytes with few sums, at most
+   109,720. */
 foliocrane_answer foliocrane_all_rings(uint64_t atoms, const uint8_t *bonds, size_t bonds_len, uint64_t *out, size_t out_len);
 
-/* The smallest basis, as taken from all rings in their order. At most 64 words. Stack: 8,120 bytes with few sums, at most
-   113,480. */
+/* The smallest basis, as taken from all rings in their order. At most 64 words. Stack: 6,488 bytes with few sums, at most
+   110,744. */
 foliocrane_answer foliocrane_smallest_basis(uint64_t atoms, const uint8_t *bonds, size_t bonds_len, uint64_t *out, size_t out_len);
 
 /* The reduced basis of 1975: it depends on the numbering, and may have sets that are no rings. At most 64 words. Stack:
@@ -70,7 +70,7 @@ foliocrane_answer foliocrane_reduced_basis(uint64_t atoms, const uint8_t *bonds,
 
 /* The label: it depends on the molecule and not on the numbering. Its field 01 is bonds - atoms + fragments, an atom without bonds being a
    fragment too: the number of basis rings. Earlier versions wrote bonds - atoms + 1 there, or 0 where that is negative, so that their labels
-   differ in it for tables of several fragments that have a ring. At most 512 bytes. Stack: 9,016 bytes with few sums, at most 25,560. */
+   differ in it for tables of several fragments that have a ring. At most 512 bytes. Stack: 8,488 bytes with few sums, at most 22,888. */
 foliocrane_answer foliocrane_label(uint64_t atoms, const uint8_t *bonds, size_t bonds_len, uint8_t *out, size_t out_len);
 
 /* The sidecar: the reduced basis in a field of its own. At most 515 bytes. Stack: 6,456 bytes. */

@@ -6,9 +6,6 @@ use sets::WORDS;
 // most 64.
 const MOST: usize = 6547;
 
-// So many lengths are shorter: FEW and MANY.
-pub(crate) const SHORTER: usize = 2;
-
 // The lengths in words.
 pub(crate) const FEW_WORDS: usize = FEW * WORDS;
 

@@ -12,7 +12,7 @@ use answers::{BASIS_WORDS, SIZES};
 use choosing::smallest_of;
 use combining::add_assembly;
 use ordering::{count_sizes, order_rings};
-use sets::{BondSet, RingSet, WordSet, WORDS};
+use sets::{BondSet, RingSet, WORDS, WordSet};
 
 // Counts a ring that is alone in its assembly: it is its own smallest basis.
 pub(crate) fn count_alone(
