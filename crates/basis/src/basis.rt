@@ -21,8 +21,10 @@ pub fn basis_of(atoms: u64, bonds: &[u8]) -> Result<Basis, Refusal>
 {
     accept(atoms, bonds)?;
     let mut fragments = Fragments::apart();
-    let mut rings = [0u64; BASIS_WORDS];
-    let mut count: usize = 0;
+    let mut basis = Basis {
+        rings: [0; BASIS_WORDS],
+        count: 0,
+    };
     for k in 0..bonds.len() / 2 {
         let ends = ends_of(bonds, k);
         let one = fragments.climb_from(ends.tail);
@@ -31,11 +33,12 @@ pub fn basis_of(atoms: u64, bonds: &[u8]) -> Result<Basis, Refusal>
         fragments.settle(ends.head, other);
         let round = one.bonds.sum(other.bonds).with(k);
         if one.atom == other.atom {
-            round.put_at(&mut rings, count);
-            count += 1;
+            let count = basis.count;
+            round.put_at(&mut basis.rings, count);
+            basis.count = count + 1;
         } else {
             fragments.join(one.atom, other.atom, round);
         }
     }
-    Ok(Basis { rings, count })
+    Ok(basis)
 }

@@ -24,9 +24,7 @@ pub struct Perceived {
     pub sums: usize,
 }
 
-// What is worked out of a table. An assembly of k basis rings has 2 ^ k - 1 sums that are not empty. It is merged into its callers, so that
-// what it hands back, a kilobyte, is not copied once more.
-#[inline(always)]
+// What is worked out of a table. An assembly of k basis rings has 2 ^ k - 1 sums that are not empty.
 pub fn perceive(atoms: u64, bonds: &[u8]) -> Result<Perceived, Refusal>
     ensures { Perceives (table atoms bonds.now) result }
 {

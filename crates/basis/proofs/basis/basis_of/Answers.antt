@@ -58,8 +58,8 @@ loop-k-preserved c =
     tried_turn twice.0 v c.loop-k-test.true e.0.0 e.1.0
     (twice.1 _ _ _ low.0 (once.1 _ _ _ low.0 one)) (twice.1 _ _ _ low.1 other) c.sum.ensures c.with-round.ensures in
     elim c.if-one-other.branch [
-      | then-one-other w ↦ rw (w.fragments-is, w.rings-is, w.count-is, w.put_at.ensures.sets) (both.0 w.if-one-other.true)
-      | else-one-other w ↦ rw (w.fragments-is, w.rings-is, w.count-is, w.join.ensures.lower, w.join.ensures.ways) (both.1 w.if-one-other.false)
+      | then-one-other w ↦ rw (w.fragments-is, w.basis-is, w.put_at.ensures.sets) (both.0 w.if-one-other.true)
+      | else-one-other w ↦ rw (w.fragments-is, w.basis-is, w.join.ensures.lower, w.join.ensures.ways) (both.1 w.if-one-other.false)
     ]
 
 pub returns : goal.returns

@@ -5,4 +5,4 @@ use Rattle.basis.proofs.Trying.{Tried}
 use Rattle.basis.proofs.basis.basis_of.Given as goal
 
 abbrev pub invariant-loop-k : goal.invariant-loop-k
-invariant-loop-k l = Tried (table l.atoms l.bonds) l.fragments.lower (sets_in l.fragments.ways) (sets_in l.rings) l.count l.k
+invariant-loop-k l = Tried (table l.atoms l.bonds) l.fragments.lower (sets_in l.fragments.ways) (sets_in l.basis.rings) l.basis.count l.k
