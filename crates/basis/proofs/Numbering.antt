@@ -2,17 +2,19 @@
 -- the assembly of that number; where no ring is left all assemblies are found. Assumes nothing.
 use mathlib.Core.Path.{◌≡◌, refl, sym, ap, ap₂, ◌∙◌}
 use mathlib.Core.Bool.{Bool, true, false, ◌&&◌, not, and-true}
-use mathlib.Core.List.{List}
+use mathlib.Core.List.{List, []}
 use Prim.Native.Nat.{ℕ, ◌+◌, ◌≤◌, ◌<◌, min}
 use native.Mathlib.Omega.{arith}
 use borrow.Author.Tests.{eqb-true, eqb-false, eq-eqb, ltb-true, lt-ltb, leb-true, leb-false, le-leb, ne_eqb, not-true}
 use lib.Dec.{eqb, ltb, leb}
 use lib.ListN.{length, get_or, set, replicate, length-set, length-replicate}
 use lib.Seq.{get_or-set_same, get_or-set_other}
-use Rattle.sets.specs.Bits.{has, all_below, IsNext}
+use Rattle.sets.specs.Bits.{has, all_below}
 use Rattle.sets.specs.Ring.{bits, no_rings, room}
+use Rattle.sets.specs.Rising.{rising}
 use Rattle.sets.specs.declared.ring.RingSet.{RingSet}
 use Rattle.sets.proofs.Laws.{ext, has-all_below}
+use Rattle.sets.proofs.Upward.{Turn}
 use Rattle.sets.proofs.Members.{common, meet_of}
 use Rattle.sets.proofs.Machine.{no_rings_lem}
 use Rattle.definitions.specs.Search.{set_of}
@@ -24,6 +26,7 @@ use Rattle.definitions.proofs.Lists.{has-set_of, count-le, get_or-same}
 use Rattle.definitions.proofs.Linking.{number, first?, assembly_count_lem, number_below, number_next, number_all, linked_test, linked_trans, linked_closed}
 use Rattle.basis.specs.Held.{AssembliesOf}
 use Rattle.basis.specs.Clusters.{Group, Grouped, Apart}
+use Rattle.basis.proofs.Taken.{none_below}
 use Rattle.basis.proofs.Holding.{members-at}
 
 -- not below n and not n is above n
@@ -74,20 +77,20 @@ module _ {rs : List ℕ} {sets : List RingSet} {n left : ℕ} (d : Divided rs se
   left_below i h = (left-number i h).0
 
   -- where no ring is left all assemblies are found
-  pub divided_all : {first : ℕ} → IsNext room left 0 first → room ≤ first → AssembliesOf rs (record { members = sets; count = n })
-  divided_all next h =
-      let e = number_all rs n d.low (λ j l. used j l (next.none j (omega arith) (omega arith))) in
+  pub divided_all : [] ≡ rising room left → AssembliesOf rs (record { members = sets; count = n })
+  divided_all none =
+      let e = number_all rs n d.low (λ j l. used j l (none_below room left none j (omega (arith, d.few)))) in
       record { count = e; counted = omega (arith, assembly_count_lem rs, count-le (first? rs) (length rs)); members = λ a l. members-at sets a ∙ d.found a l; blank = λ a l. members-at sets a ∙ d.blank a l }
 
-  module _ {first : ℕ} (next : IsNext room left 0 first) (h : first < room) where
+  module _ {first : ℕ} (next : Turn room left [] first) where
     -- the first ring left has the next number
     next_number : number rs first ≡ n
     next_number =
-        let (l, m) = left-number first (next.member h) in
-        number_next rs n first l (λ j i. used j (omega arith) (next.none j (omega arith) i)) m
+        let (l, m) = left-number first next.member in
+        number_next rs n first l (λ j i. used j (omega arith) (none_below first left next.before j i)) m
 
     first_below : first < length rs
-    first_below = left_below first (next.member h)
+    first_below = left_below first next.member
 
     -- there is room for it
     pub divided_room : n < room

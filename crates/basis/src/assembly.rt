@@ -95,13 +95,11 @@ pub fn assemblies_of(rings: &[u64; BASIS_WORDS], count: usize) -> Assemblies
     let mut members = [RingSet::EMPTY; MAX_BONDS];
     let mut assemblies: usize = 0;
     let mut left = RingSet::below(sets_in(known));
-    let mut first = left.next(0);
-    while first <= RingSet::LAST {
+    while let Some(first) = left.into_iter().next() {
         let cluster = cluster_of(known, first, left);
         members[assemblies] = cluster.members;
         assemblies += 1;
         left = cluster.left;
-        first = left.next(0);
     }
     Assemblies {
         members,

@@ -2,12 +2,11 @@
 -- rest adds nothing. Assumes nothing.
 use mathlib.Core.Path.{◌≡◌, refl, sym, ap, ◌∙◌}
 use mathlib.Core.List.{List, [], ◌∷◌, ◌++◌}
-use Prim.Native.Nat.{ℕ, ◌+◌, ◌-◌, ◌^◌, ◌<◌, ◌≤◌}
+use Prim.Native.Nat.{ℕ, ◌+◌, ◌-◌, ◌<◌, ◌≤◌}
 use native.Mathlib.Numerals.{add-one}
 use native.Mathlib.Omega.{arith}
 use lib.ListN.{length, take, drop, get_or, set, replicate, length-set, length-replicate, get_or-replicate}
 use lib.Seq.{take-suc-set, drop-set-lt, length-take-le, drop-drop}
-use Rattle.sets.specs.Bits.{IsNext}
 use Rattle.sets.specs.Bond.{room}
 use Rattle.definitions.specs.Smallest.{SumOf, sum?, taking}
 use Rattle.definitions.proofs.Tests.{by, not_passed, clashes}
@@ -15,7 +14,7 @@ use Rattle.definitions.proofs.Lists.{length_snoc}
 use Rattle.spans.proofs.Choice.{sum?_test}
 use Rattle.spans.proofs.Taking.{taking_full, taking_leave_at, taking-keep-at}
 use Rattle.spans.specs.Elimination.{Lowest, Remainder}
-use Rattle.spans.proofs.Elimination.{lowest_first, nothing-first, kept-none, kept-zero, kept-left, kept_more}
+use Rattle.spans.proofs.Elimination.{kept-none, kept-zero, kept-left, kept_more}
 use Rattle.choosing.specs.Elimination.{taken_with, Eliminated, Stepped, Choosable, Selected}
 
 -- ---- one ring more
@@ -38,10 +37,10 @@ module _ (taken : List ℕ) (x : ℕ) where
       (λ h. rw (with-sum ((sum?_test taken x).0 h)) (omega arith))
       (λ h. rw (with_new (λ s. clashes ((sum?_test taken x).1 s) h)) (omega (arith, length_snoc taken x)))
 
-module _ {kept taken : List ℕ} {n ring rest k : ℕ} (e : Eliminated kept taken n) (left : Remainder kept ring rest) (next : IsNext room rest 0 k) where
+module _ {kept taken : List ℕ} {n ring rest : ℕ} (e : Eliminated kept taken n) (left : Remainder kept ring rest) where
   -- something is left: the ring is taken, and what is left is kept
-  pub step_new : {kept' taken' : List ℕ} → n < room → k < room → kept' ≡ set kept k rest → taken' ≡ set taken n ring → Stepped taken n ring kept' taken' (n + 1)
-  step_new h l p q =
+  pub step_new : {k : ℕ} {kept' taken' : List ℕ} → n < room → (k < room) × Lowest rest k → kept' ≡ set kept k rest → taken' ≡ set taken n ring → Stepped taken n ring kept' taken' (n + 1)
+  step_new {k} h (l, low) p q =
       rw (p, q) (record {
         state = record {
           long = length-set kept k rest ∙ e.long;
@@ -53,15 +52,12 @@ module _ {kept taken : List ℕ} {n ring rest k : ℕ} (e : Eliminated kept take
         rest = drop-set-lt (n + 1) taken n ring (omega arith);
       })
     where
-      low : Lowest rest k
-      low = lowest_first room next l
-
       more : take (n + 1) (set taken n ring) ≡ take n taken ++ ring ∷ []
       more = rw add-one (take-suc-set taken n ring (omega (arith, e.lent)))
 
   -- nothing is left: it is passed over
-  pub step_old : rest < 2 ^ room → room ≤ k → Stepped taken n ring kept taken n
-  step_old b l = record { state = e; list = sym (with-sum (take n taken) ring (kept-zero e.sums left (nothing-first room next b l))); rest = refl }
+  pub step_old : rest ≡ 0 → Stepped taken n ring kept taken n
+  step_old none = record { state = e; list = sym (with-sum (take n taken) ring (kept-zero e.sums left none)); rest = refl }
 
 -- lists that agree from one place on agree from a later one on
 drop-later : (l m : List ℕ) (i j : ℕ) → i ≤ j → drop i l ≡ drop i m → drop j l ≡ drop j m

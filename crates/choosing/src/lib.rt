@@ -9,8 +9,8 @@ ghost use Rattle.spans.specs.Elimination.{Rows, Remainder};
 ghost use Rattle.choosing.specs.Elimination.{Eliminated, Stepped, Choosable, Selected};
 
 use answers::BASIS_WORDS;
-use sets::{BondSet, WordSet};
 use sets::list::sets_in;
+use sets::{BondSet, WordSet};
 
 // What is left of a ring when the set kept at its lowest bond is summed with it, as long as there is one.
 fn left_of(kept: &[u64; BASIS_WORDS], ring: BondSet) -> BondSet
@@ -18,14 +18,12 @@ fn left_of(kept: &[u64; BASIS_WORDS], ring: BondSet) -> BondSet
     ensures { Remainder (sets_in kept.now) (bits ring) (bits result) }
 {
     let mut rest = ring;
-    let mut k = rest.next(0);
-    while k <= BondSet::LAST {
-        let other = BondSet::at(kept, k);
+    while !rest.is_empty() {
+        let other = BondSet::at(kept, rest.next(0));
         if other.is_empty() {
             return rest;
         }
         rest = rest.sum(other);
-        k = rest.next(k + 1);
     }
     rest
 }
@@ -36,13 +34,12 @@ fn take_new(kept: &mut [u64; BASIS_WORDS], taken: &mut [u64], count: usize, ring
     ensures { Stepped (sets_in taken.old) count (bits ring) (sets_in kept.new) (sets_in taken.new) result }
 {
     let rest = left_of(kept, ring);
-    let k = rest.next(0);
-    if k <= BondSet::LAST {
-        rest.put_at(kept, k);
-        ring.put_at(taken, count);
-        return count + 1;
+    if rest.is_empty() {
+        return count;
     }
-    count
+    rest.put_at(kept, rest.next(0));
+    ring.put_at(taken, count);
+    count + 1
 }
 
 // What is taken of the sets of a list, which are sums of as many basis rings as are wanted: when so many are taken, the rest are sums of

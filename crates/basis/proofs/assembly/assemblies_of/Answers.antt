@@ -1,28 +1,55 @@
--- Before each turn the first assemblies are found and the rings of the others are left, the first of them next; where there is one there is
--- a place for its assembly. Assumes nothing.
+-- Before each turn the first assemblies are found and the rings of the others are left; where a ring is left there is a place for its
+-- assembly. Assumes nothing.
 use mathlib.Core.Path.{refl}
-use Prim.Native.Nat.{◌≤◌}
+use mathlib.Core.List.{[]}
+use Prim.Native.Nat.{◌≤◌, ◌<◌}
 use native.Mathlib.Omega.{arith}
 use lib.ListN.{length}
 use Rattle.std.proofs.Common.{length-take}
 use borrow.Author.Rules.{rules}
-use Rattle.sets.specs.Ring.{room}
+use Rattle.sets.specs.Ring.{bits, room}
 use Rattle.sets.specs.Lists.{sets_in}
 use Rattle.sets.proofs.Lists.{sets-whole}
+use Rattle.sets.proofs.Upward.{Turn, turn_of, turns_done}
 use Rattle.definitions.specs.Table.{max_bonds}
-use Rattle.basis.proofs.Numbering.{divided_none, divided_room, divided_more, divided_all}
+use Rattle.basis.proofs.Numbering.{divided_none, divided_room, divided_more, divided_all, left_below}
 use Rattle.basis.proofs.assembly.assemblies_of.Goals as goal
-use Rattle.basis.proofs.assembly.assemblies_of.Goals.{In-loop-first}
+use Rattle.basis.proofs.assembly.assemblies_of.Goals.{In-Some}
+
+-- the first ring left
+turn : (c : In-Some) → Turn room (bits c.loop-first.left) [] c.in-Some.first
+turn c = turn_of _ _ _ _ _ [] c.into_iter.ensures.into_iter_gives refl c.next.ensures.steps c.in-Some.is
+
+-- its assembly has a place
+place : (c : In-Some) → c.loop-first.assemblies < room
+place c = divided_room c.loop-first.invariant (turn c)
 
 pub loop-first-init : goal.loop-first-init
 loop-first-init c = let whole = sets-whole max_bonds c.args.rings.now (search rules) in
     let few : length (sets_in c.first_sets-known.result.now) ≤ room = rw c.first_sets-known.ensures (omega (arith, length-take c.args.count (sets_in c.args.rings.now), whole)) in
-    (divided_none _ few refl (rw c.sets_in.ensures at c.below-left.ensures), c.next-first.ensures, λ h. omega arith)
+    divided_none _ few refl (rw c.sets_in.ensures at c.below-left.ensures)
+
+pub cluster_of-cluster-requires-clause-first : goal.cluster_of-cluster-requires-clause-first
+cluster_of-cluster-requires-clause-first c = (turn (goal.at.cluster_of-cluster-requires-clause-first c).In-Some).member
+
+pub cluster_of-cluster-requires-clause-inside : goal.cluster_of-cluster-requires-clause-inside
+cluster_of-cluster-requires-clause-inside c = left_below c.loop-first.invariant
+
+pub offset_bounds-members-assemblies : goal.offset_bounds-members-assemblies
+offset_bounds-members-assemblies c = omega (arith, place (goal.at.offset_bounds-members-assemblies c).In-Some)
+
+pub bounds-members-assemblies : goal.bounds-members-assemblies
+bounds-members-assemblies c = omega (arith, place (goal.at.bounds-members-assemblies c).In-Some)
+
+pub overflow_add-assemblies : goal.overflow_add-assemblies
+overflow_add-assemblies c = omega (arith, place (goal.at.overflow_add-assemblies c).In-Some)
+
+pub loop-first-smaller : goal.loop-first-smaller
+loop-first-smaller c = omega (arith, place (goal.at.loop-first-smaller c).In-Some)
 
 pub loop-first-preserved : goal.loop-first-preserved
 loop-first-preserved c = let found = c.cluster_of-cluster.ensures in
-    let more = divided_more c.loop-first.invariant.0 c.loop-first.invariant.1 (omega arith) found.grouped found.apart refl in
-    (more, c.next-first-in-loop-first.ensures, divided_room more c.next-first-in-loop-first.ensures)
+    divided_more c.loop-first.invariant (turn (goal.at.loop-first-preserved c).In-Some) found.grouped found.apart refl
 
 pub returns : goal.returns
-returns c = rw c.first_sets-known.ensures at (divided_all c.loop-first.invariant.0 c.loop-first.invariant.1 (omega arith))
+returns c = rw c.first_sets-known.ensures at (divided_all c.loop-first.invariant (turns_done _ _ _ _ _ [] c.into_iter.ensures.into_iter_gives refl c.next.ensures.steps c.in_default.is))
