@@ -92,19 +92,19 @@ pub fn assemblies_of(rings: &[u64; BASIS_WORDS], count: usize) -> Assemblies
     ensures { AssembliesOf (take count (sets_in rings.now)) result }
 {
     let known = first_sets(rings, count);
-    let mut members = [RingSet::EMPTY; MAX_BONDS];
-    let mut assemblies: usize = 0;
+    let mut found = Assemblies {
+        members: [RingSet::EMPTY; MAX_BONDS],
+        count: 0,
+    };
     let mut left = RingSet::below(sets_in(known));
     while let Some(first) = left.into_iter().next() {
         let cluster = cluster_of(known, first, left);
-        members[assemblies] = cluster.members;
-        assemblies += 1;
+        let a = found.count;
+        found.members[a] = cluster.members;
+        found.count = a + 1;
         left = cluster.left;
     }
-    Assemblies {
-        members,
-        count: assemblies,
-    }
+    found
 }
 
 // Writes the number of an assembly at the place of each of its basis rings.

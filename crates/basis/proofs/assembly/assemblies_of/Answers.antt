@@ -21,7 +21,7 @@ turn : (c : In-Some) → Turn room (bits c.loop-first.left) [] c.in-Some.first
 turn c = turn_of _ _ _ _ _ [] c.into_iter.ensures.into_iter_gives refl c.next.ensures.steps c.in-Some.is
 
 -- its assembly has a place
-place : (c : In-Some) → c.loop-first.assemblies < room
+place : (c : In-Some) → c.loop-first.found.count < room
 place c = divided_room c.loop-first.invariant (turn c)
 
 pub loop-first-init : goal.loop-first-init
@@ -35,14 +35,14 @@ cluster_of-cluster-requires-clause-first c = (turn (goal.at.cluster_of-cluster-r
 pub cluster_of-cluster-requires-clause-inside : goal.cluster_of-cluster-requires-clause-inside
 cluster_of-cluster-requires-clause-inside c = left_below c.loop-first.invariant
 
-pub offset_bounds-members-assemblies : goal.offset_bounds-members-assemblies
-offset_bounds-members-assemblies c = omega (arith, place (goal.at.offset_bounds-members-assemblies c).In-Some)
+pub offset_bounds-found-a : goal.offset_bounds-found-a
+offset_bounds-found-a c = omega (arith, place (goal.at.offset_bounds-found-a c).In-Some)
 
-pub bounds-members-assemblies : goal.bounds-members-assemblies
-bounds-members-assemblies c = omega (arith, place (goal.at.bounds-members-assemblies c).In-Some)
+pub bounds-found-a : goal.bounds-found-a
+bounds-found-a c = omega (arith, place (goal.at.bounds-found-a c).In-Some)
 
-pub overflow_add-assemblies : goal.overflow_add-assemblies
-overflow_add-assemblies c = omega (arith, place (goal.at.overflow_add-assemblies c).In-Some)
+pub overflow_add-found : goal.overflow_add-found
+overflow_add-found c = omega (arith, place (goal.at.overflow_add-found c).In-Some)
 
 pub loop-first-smaller : goal.loop-first-smaller
 loop-first-smaller c = omega (arith, place (goal.at.loop-first-smaller c).In-Some)

@@ -6,7 +6,7 @@ use Rattle.basis.proofs.Numbering.{Divided}
 use Rattle.basis.proofs.assembly.assemblies_of.Given as goal
 
 abbrev pub invariant-loop-first : goal.invariant-loop-first
-invariant-loop-first l = Divided (sets_in l.known) l.members l.assemblies (bits l.left)
+invariant-loop-first l = Divided (sets_in l.known) l.found.members l.found.count (bits l.left)
 
 abbrev pub decreases-loop-first : goal.decreases-loop-first
-decreases-loop-first l = room - l.assemblies
+decreases-loop-first l = room - l.found.count
