@@ -23,6 +23,7 @@ use Rattle.ordering.specs.Sizes.{SizesOf}
 use Rattle.rings.specs.Counts.{Blank, Counted, CountsOf}
 use Rattle.std.proofs.Common.{Ok}
 use Rattle.rings.specs.declared.Counts.{Counts}
+use Rattle.rings.specs.declared.histograms.Histograms.{Histograms}
 use Rattle.labels.specs.Text.{label_bytes}
 use Rattle.labels.proofs.Counting.{lines-histogram}
 use Rattle.label.proofs.Fitting.{frerejacque-fits}
@@ -43,12 +44,12 @@ told_below {counts = counts} {top} s z h =
     (λ t. get_or-take top counts z 0 (ltb-true z top t) ∙ s.told z h)
     (λ t. get_or-eq_default (take top counts) 0 (omega (arith, length-take-le top counts (omega (arith, s.long, s.within)), ltb-false z top t)) ∙ sym (s.none z (ltb-false z top t)) ∙ s.told z h)
 
-module _ {M : Table} {c : Counts} {all smallest pairs : List ℕ} (t : CountsOf M (Ok c) all smallest pairs) where
+module _ {M : Table} {c : Counts} {h : Histograms} {pairs : List ℕ} (t : CountsOf M (Ok c) h pairs) where
   zero-given : refusal_of_rings M ≡ 0
   zero-given = sym t.number
 
   -- what is counted of an accepted table
-  pub counted : Counted M c all smallest pairs
+  pub counted : Counted M c h pairs
   counted = t.accepted
 
   -- the basis rings are as many as the Frerejacque number says
@@ -56,17 +57,17 @@ module _ {M : Table} {c : Counts} {all smallest pairs : List ℕ} (t : CountsOf 
   basis-frerejacque = counted.basis ∙ sym (frerejacque_is_basis ((accepted M).0 ((rings-accepted M).0 zero-given).0))
 
   -- its text is the label
-  label_text_lem : label_bytes c.basis (take c.top all) (take c.top smallest) (take c.pairs pairs) ≡ label_of M
+  label_text_lem : label_bytes c.basis (take h.top h.all) (take h.top h.smallest) (take c.pairs pairs) ≡ label_of M
   unfolding label_bytes label_of
   label_text_lem = rw (
-    lines-histogram 2 (all_rings M) (take c.top all) (told_below counted.rings),
-    lines-histogram 1 (smallest_basis M) (take c.top smallest) (told_below counted.chosen),
+    lines-histogram 2 (all_rings M) (take h.top h.all) (told_below counted.rings),
+    lines-histogram 1 (smallest_basis M) (take h.top h.smallest) (told_below counted.chosen),
     counted.rising,
     basis-frerejacque,
     one_byte (frerejacque M) (frerejacque-fits M ((rings-accepted M).0 zero-given).0),
   )
 
   -- so what is written is the label
-  pub label_written : (out : List ℕ) {o : Outcome (List ℕ)} → o ≡ written 0 (label_bytes c.basis (take c.top all) (take c.top smallest) (take c.pairs pairs)) out
+  pub label_written : (out : List ℕ) {o : Outcome (List ℕ)} → o ≡ written 0 (label_bytes c.basis (take h.top h.all) (take h.top h.smallest) (take c.pairs pairs)) out
       → o ≡ written (refusal_of_rings M) (label_of M) out
   label_written out w = is_accepted (label_of M) out t.number label_text_lem w
