@@ -3,6 +3,7 @@ ghost use Rattle.definitions.specs.Ringline as text;
 ghost use Rattle.lent.specs.Appended.{Room, Appended};
 ghost use Rattle.ringline.specs.Line.{answer_text, answer_line};
 
+use answers::Refusal;
 use records::{put_decimal, put_hex, put_spaced, put_text};
 
 // `end` and the number of records.
@@ -25,7 +26,7 @@ pub(crate) fn put_frame(number: u64, out: &mut [u8], at: usize) -> usize
 }
 
 // 0 and a label in hex, or the number of a refusal and `-`.
-fn put_label(label: Result<&[u8], u8>, out: &mut [u8], at: usize) -> usize
+fn put_label(label: Result<&[u8], Refusal>, out: &mut [u8], at: usize) -> usize
     requires { Room (answer_text label) out.old at }
     ensures { Appended out.old at (answer_text label.entry) out.new result }
 {
@@ -35,14 +36,19 @@ fn put_label(label: Result<&[u8], u8>, out: &mut [u8], at: usize) -> usize
             put_hex(bytes, out, word)
         }
         Err(refusal) => {
-            let word = put_spaced(refusal as u64, out, at);
+            let word = put_spaced(refusal.number() as u64, out, at);
             put_text(b"-", out, word)
         }
     }
 }
 
 // The number of a record, and its label or refusal.
-pub(crate) fn put_answer(number: u64, label: Result<&[u8], u8>, out: &mut [u8], at: usize) -> usize
+pub(crate) fn put_answer(
+    number: u64,
+    label: Result<&[u8], Refusal>,
+    out: &mut [u8],
+    at: usize,
+) -> usize
     requires { Room (answer_line number label) out.old at }
     ensures { Appended out.old at (answer_line number label.entry) out.new result }
 {

@@ -1,15 +1,12 @@
 // From the bytes of standard input to the bytes that the program prints.
-ghost use Rattle.std.specs.Prelude.{◌≡◌, ◌+◌, ◌*◌, ◌^◌, ◌≤◌, ◌<◌, length, take, ◌++◌};
+ghost use Rattle.std.specs.Prelude.{◌≡◌, ◌+◌, ◌*◌, ◌^◌, ◌≤◌, ◌<◌, length, take};
 ghost use Rattle.definitions.specs.Ringline as text;
 ghost use Rattle.definitions.specs.Table.{table};
 ghost use Rattle.definitions.specs.Records.{head_bytes};
 ghost use Rattle.lent.specs.Appended.{Appended};
-ghost use Rattle.records.specs.Spaced.{spaced};
 ghost use Rattle.ringline.specs.Counts.{IsPrefixLen};
-ghost use Rattle.ringline.specs.Line.{answer_text};
 
 use crate::line::{put_answer, put_end, put_frame};
-use answers::Answer;
 use label::label;
 use records::{Record, first_record, put_text};
 
@@ -19,18 +16,6 @@ pub(crate) const MAX_INPUT: usize = 32768;
 // The bytes that are lent for a label: enough for every one.
 const LABEL_ROOM: usize = 512;
 
-// The label that an answer counts over the start of a list, or the number of the refusal.
-fn label_or_refusal(answer: Answer, bytes: &[u8]) -> Result<&[u8], u8>
-    requires { answer.count ≤ length bytes.now }
-    ensures { answer_text result ≡ spaced answer.number ++ text.label_text answer.number (take answer.count bytes.entry.now) }
-{
-    if answer.number == 0 {
-        Ok(&bytes[..answer.count])
-    } else {
-        Err(answer.number)
-    }
-}
-
 // The line of a record: its number has four digits at most, and there are seven bytes of room for each byte of the record.
 fn put_record(number: u64, given: Record<'_>, out: &mut [u8], at: usize) -> usize
     requires { (number < 10 ^ 4) × (at + 7 * (head_bytes + length given.bonds.now) ≤ length out.old) }
@@ -38,8 +23,10 @@ fn put_record(number: u64, given: Record<'_>, out: &mut [u8], at: usize) -> usiz
     ensures upper_bound { result ≤ at + 7 * (head_bytes + length given.entry.bonds.now) }
 {
     let mut bytes = [0; LABEL_ROOM];
-    let answer = label(given.atoms as u64, given.bonds, &mut bytes);
-    put_answer(number, label_or_refusal(answer, &bytes), out, at)
+    match label(given.atoms as u64, given.bonds, &mut bytes) {
+        Ok(count) => put_answer(number, Ok(&bytes[..count]), out, at),
+        Err(refusal) => put_answer(number, Err(refusal), out, at),
+    }
 }
 
 // A line for each record, and a last one: the end and the number of records, or the number of a broken one. It has 16 bytes at most.

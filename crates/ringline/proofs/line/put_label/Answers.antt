@@ -7,4 +7,4 @@ pub returns-in-Ok : goal.returns-in-Ok
 returns-in-Ok c = rw c.in-Ok.is (appended_more (omega arith) c.put_text-word.ensures c.put_hex.ensures)
 
 pub returns-in-Err : goal.returns-in-Err
-returns-in-Err c = rw c.in-Err.is (appended_more (omega arith) c.put_spaced-word.ensures c.put_text.ensures)
+returns-in-Err c = rw (c.in-Err.is, ← c.number.ensures) (appended_more (omega arith) c.put_spaced-word.ensures c.put_text.ensures)
