@@ -8,7 +8,7 @@ use borrow.Author.Rules.{rules}
 use Rattle.definitions.specs.Table.{table}
 use Rattle.definitions.specs.Records.{head_bytes}
 use Rattle.definitions.specs.Ringline.{record_line}
-use Rattle.lent.proofs.Appending.{appended_as}
+use Rattle.lent.proofs.Writing.{writes_as}
 use Rattle.ringline.proofs.Answering.{Replied, replied, line-most, label_within, label_line, refusal_line}
 use Rattle.ringline.proofs.render.put_record.Goals as goal
 use Rattle.ringline.proofs.render.put_record.Goals.{After-label}
@@ -39,22 +39,22 @@ put_answer-requires-in-Err c =
     let before = (goal.at.put_answer-requires-in-Err c).After-label in
     omega (arith, ap length (refusal_line (told before) c.args.number c.in-Err.is), short before)
 
-pub returns-in-Ok-clause-appended : goal.returns-in-Ok-clause-appended
-returns-in-Ok-clause-appended c =
-    let before = (goal.at.returns-in-Ok-clause-appended c).After-label in
-    appended_as (label_line (told before) c.args.number c.in-Ok.is) c.put_answer.ensures
+pub returns-in-Ok-clause-line : goal.returns-in-Ok-clause-line
+returns-in-Ok-clause-line c =
+    let before = (goal.at.returns-in-Ok-clause-line c).After-label in
+    writes_as c.put_answer.ensures (label_line (told before) c.args.number c.in-Ok.is)
 
 pub returns-in-Ok-clause-upper_bound : goal.returns-in-Ok-clause-upper_bound
 returns-in-Ok-clause-upper_bound c =
     let before = (goal.at.returns-in-Ok-clause-upper_bound c).After-label in
-    omega (arith, c.put_answer.ensures.end, ap length (label_line (told before) c.args.number c.in-Ok.is), short before)
+    omega (arith, c.put_answer.ensures.appended.end, ap length (label_line (told before) c.args.number c.in-Ok.is), short before)
 
-pub returns-in-Err-clause-appended : goal.returns-in-Err-clause-appended
-returns-in-Err-clause-appended c =
-    let before = (goal.at.returns-in-Err-clause-appended c).After-label in
-    appended_as (refusal_line (told before) c.args.number c.in-Err.is) c.put_answer-in-Err.ensures
+pub returns-in-Err-clause-line : goal.returns-in-Err-clause-line
+returns-in-Err-clause-line c =
+    let before = (goal.at.returns-in-Err-clause-line c).After-label in
+    writes_as c.put_answer-in-Err.ensures (refusal_line (told before) c.args.number c.in-Err.is)
 
 pub returns-in-Err-clause-upper_bound : goal.returns-in-Err-clause-upper_bound
 returns-in-Err-clause-upper_bound c =
     let before = (goal.at.returns-in-Err-clause-upper_bound c).After-label in
-    omega (arith, c.put_answer-in-Err.ensures.end, ap length (refusal_line (told before) c.args.number c.in-Err.is), short before)
+    omega (arith, c.put_answer-in-Err.ensures.appended.end, ap length (refusal_line (told before) c.args.number c.in-Err.is), short before)
