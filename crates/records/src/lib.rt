@@ -1,4 +1,4 @@
-// What the programs over the library share: their input, the records of a stream, and text written into a lent list.
+// What the programs over the library share: their input, the records of a stream, and text that a writer writes.
 #![tactic(auto)]
 
 mod input;
@@ -7,4 +7,4 @@ mod text;
 
 pub use input::read_input;
 pub use record::{Record, first_record};
-pub use text::{put_decimal, put_hex, put_spaced, put_text};
+pub use text::{put_decimal, put_hex, put_spaced};

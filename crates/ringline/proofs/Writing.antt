@@ -4,15 +4,12 @@ use mathlib.Core.List.{List, [], ◌∷◌, ◌++◌, append_assoc}
 use Prim.Native.Nat.{ℕ, zero, suc, ◌+◌}
 use native.Mathlib.Omega.{arith}
 use lib.ListN.{length, length-append}
-use Rattle.std.specs.Borrow.{Bor}
-use Rattle.std.specs.Prelude.{Result}
 use Rattle.definitions.specs.Table.{Table}
 use Rattle.definitions.specs.Label.{label_of}
 use Rattle.definitions.specs.Answer.{refusal_of_rings}
 use Rattle.definitions.specs.Text.{decimal_in, decimal, hex, space, newline}
 use Rattle.definitions.specs.Ringline.{label_text, end_line, frame_line, record_line}
 use Rattle.records.specs.Spaced.{spaced}
-use Rattle.ringline.specs.Line.{answer_text, answer_line}
 
 -- ---- how long the lines are
 
@@ -42,9 +39,9 @@ unfolding spaced frame_line
 frame_parts n = append_assoc (decimal n) _ _
 
 -- two numbers, each with a space, the label's text and the line's end
-pub answer_parts : (n : ℕ) (M : Table) (label : Result (Bor (List ℕ)) ℕ) → answer_text label ≡ spaced (refusal_of_rings M) ++ label_text (refusal_of_rings M) (label_of M) → answer_line n label ≡ record_line n M
+pub line_parts : (n : ℕ) (M : Table) {text : List ℕ} → text ≡ spaced (refusal_of_rings M) ++ label_text (refusal_of_rings M) (label_of M) → spaced n ++ (text ++ (newline ∷ [])) ≡ record_line n M
 unfolding spaced record_line
-answer_parts n M label e = rw e (simp append_assoc)
+line_parts n M e = rw e (simp append_assoc)
 
 -- an accepted table has its label in hex
 pub text_accepted : (c : ℕ) (label : List ℕ) → c ≡ 0 → hex label ≡ label_text c label

@@ -1,17 +1,15 @@
 // From the bytes of standard input to the bytes that the program prints.
-ghost use Rattle.std.specs.Prelude.{◌≡◌, ◌+◌, ◌*◌, ◌^◌, ◌≤◌, ◌<◌, length, take, ◌++◌};
+ghost use Rattle.std.specs.Prelude.{◌≡◌, ◌+◌, ◌*◌, ◌^◌, ◌≤◌, ◌<◌, length, take};
 ghost use Rattle.definitions.specs.Ringline as text;
 ghost use Rattle.definitions.specs.Table.{table};
 ghost use Rattle.definitions.specs.Records.{head_bytes};
-ghost use Rattle.lent.specs.Appended.{Appended};
-ghost use Rattle.records.specs.Spaced.{spaced};
+ghost use Rattle.lent.specs.Writes.{Writes};
 ghost use Rattle.ringline.specs.Counts.{IsPrefixLen};
-ghost use Rattle.ringline.specs.Line.{answer_text};
 
 use crate::line::{put_answer, put_end, put_frame};
-use answers::Answer;
 use label::label;
-use records::{Record, first_record, put_text};
+use lent::Writer;
+use records::{Record, first_record};
 
 // The most bytes of input that are answered.
 pub(crate) const MAX_INPUT: usize = 32768;
@@ -19,46 +17,35 @@ pub(crate) const MAX_INPUT: usize = 32768;
 // The bytes that are lent for a label: enough for every one.
 const LABEL_ROOM: usize = 512;
 
-// The label that an answer counts over the start of a list, or the number of the refusal.
-fn label_or_refusal(answer: Answer, bytes: &[u8]) -> Result<&[u8], u8>
-    requires { answer.count ≤ length bytes.now }
-    ensures { answer_text result ≡ spaced answer.number ++ text.label_text answer.number (take answer.count bytes.entry.now) }
+// The line of a record: its number has four digits at most, and there are seven bytes of room for each byte of the record.
+fn put_record(number: u64, given: Record<'_>, writer: &mut Writer)
+    requires { (number < 10 ^ 4) × (writer.old.at + 7 * (head_bytes + length given.bonds.now) ≤ length writer.old.out.now) }
+    ensures line { Writes (text.record_line number (table given.entry.atoms given.entry.bonds.now)) writer.old writer.new }
+    ensures upper_bound { writer.new.at ≤ writer.old.at + 7 * (head_bytes + length given.entry.bonds.now) }
 {
-    if answer.number == 0 {
-        Ok(&bytes[..answer.count])
-    } else {
-        Err(answer.number)
+    let mut bytes = [0; LABEL_ROOM];
+    match label(given.atoms as u64, given.bonds, &mut bytes) {
+        Ok(count) => put_answer(number, Ok(&bytes[..count]), writer),
+        Err(refusal) => put_answer(number, Err(refusal), writer),
     }
 }
 
-// The line of a record: its number has four digits at most, and there are seven bytes of room for each byte of the record.
-fn put_record(number: u64, given: Record<'_>, out: &mut [u8], at: usize) -> usize
-    requires { (number < 10 ^ 4) × (at + 7 * (head_bytes + length given.bonds.now) ≤ length out.old) }
-    ensures appended { Appended out.old at (text.record_line number (table given.entry.atoms given.entry.bonds.now)) out.new result }
-    ensures upper_bound { result ≤ at + 7 * (head_bytes + length given.entry.bonds.now) }
-{
-    let mut bytes = [0; LABEL_ROOM];
-    let answer = label(given.atoms as u64, given.bonds, &mut bytes);
-    put_answer(number, label_or_refusal(answer, &bytes), out, at)
-}
-
 // A line for each record, and a last one: the end and the number of records, or the number of a broken one. It has 16 bytes at most.
-fn put_lines(input: &[u8], out: &mut [u8], at: usize) -> usize
-    requires { (length input.now ≤ text.max_input) × (at + 7 * length input.now + 16 ≤ length out.old) }
-    ensures { Appended out.old at (text.lines_of (length input.now) 1 input.now) out.new result }
+fn put_lines(input: &[u8], writer: &mut Writer)
+    requires { (length input.now ≤ text.max_input) × (writer.old.at + 7 * length input.now + 16 ≤ length writer.old.out.now) }
+    ensures { Writes (text.lines_of (length input.now) 1 input.now) writer.old writer.new }
 {
     let mut number: u64 = 1;
     let mut rest = input;
-    let mut next = at;
     while let Some(first) = first_record(rest) {
-        next = put_record(number, first, out, next);
+        put_record(number, first, writer);
         rest = first.rest;
         number += 1;
     }
     if rest.is_empty() {
-        put_end(number - 1, out, next)
+        put_end(number - 1, writer);
     } else {
-        put_frame(number, out, next)
+        put_frame(number, writer);
     }
 }
 
@@ -67,9 +54,12 @@ pub(crate) fn render(input: &[u8], out: &mut [u8]) -> usize
     requires { 7 * text.max_input + 24 ≤ length out.old }
     ensures { IsPrefixLen result out.new × (take result out.new ≡ text.ringline input.now) }
 {
+    let mut writer = Writer::new(out);
     if input.len() > MAX_INPUT {
-        return put_text(b"long\n", out, 0);
+        writer.bytes(b"long\n");
+        return writer.at;
     }
-    let next = put_text(b"rings 1\n", out, 0);
-    put_lines(input, out, next)
+    writer.bytes(b"rings 1\n");
+    put_lines(input, &mut writer);
+    writer.at
 }

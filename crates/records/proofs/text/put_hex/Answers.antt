@@ -1,18 +1,23 @@
 -- The library's hex, two digits a byte, stands over its part of the list. Assumes nothing.
-use mathlib.Core.Path.{◌∙◌}
+use mathlib.Core.Path.{refl, ◌∙◌}
 use native.Mathlib.Omega.{arith}
 use Rattle.records.proofs.Digits.{encoded-hex, length-hex}
 use Rattle.records.proofs.Writing.{appended_part}
 use Rattle.records.proofs.text.put_hex.Goals as goal
 
 pub overflow_add-end : goal.overflow_add-end
-overflow_add-end c = omega (arith, length-hex c.args.bytes.now)
+overflow_add-end c = omega (arith, length-hex c.args.bytes.now, c.requires)
 
 pub slice_bounds-encode_to_slice-end : goal.slice_bounds-encode_to_slice-end
-slice_bounds-encode_to_slice-end c = omega (arith, length-hex c.args.bytes.now)
+slice_bounds-encode_to_slice-end c = omega (arith, length-hex c.args.bytes.now, c.requires)
 
 pub returns : goal.returns
 returns c =
     let bytes = c.args.bytes.now in
-    appended_part c.args.out.now (rw c.unwrap.ensures at c.encode_to_slice.ensures.written ∙ encoded-hex bytes (λ i. omega (arith, c.type_inv.bytes i)))
-    (omega (arith, length-hex bytes)) (omega (arith, length-hex bytes))
+    record {
+      room = c.requires;
+      same = refl;
+      appended =
+          appended_part c.args.writer.now.out.now (rw c.unwrap.ensures at c.encode_to_slice.ensures.written ∙ encoded-hex bytes (λ i. omega (arith, c.type_inv.bytes i)))
+          (omega (arith, length-hex bytes)) (omega (arith, length-hex bytes));
+    }

@@ -1,10 +1,9 @@
 -- The two cases of what is told. Assumes nothing.
-use native.Mathlib.Omega.{arith}
-use Rattle.lent.proofs.Appending.{appended_more}
+use Rattle.lent.proofs.Writing.{writes_more}
 use Rattle.ringline.proofs.line.put_label.Goals as goal
 
 pub returns-in-Ok : goal.returns-in-Ok
-returns-in-Ok c = rw c.in-Ok.is (appended_more (omega arith) c.put_text-word.ensures c.put_hex.ensures)
+returns-in-Ok c = rw c.in-Ok.is (writes_more c.bytes.ensures c.put_hex.ensures)
 
 pub returns-in-Err : goal.returns-in-Err
-returns-in-Err c = rw c.in-Err.is (appended_more (omega arith) c.put_spaced-word.ensures c.put_text.ensures)
+returns-in-Err c = rw (c.in-Err.is, ← c.number.ensures) (writes_more c.put_spaced.ensures c.byte.ensures)

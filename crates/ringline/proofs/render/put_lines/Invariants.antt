@@ -5,7 +5,7 @@ use Rattle.ringline.proofs.Printing.{Printed}
 use Rattle.ringline.proofs.render.put_lines.Given as goal
 
 abbrev pub invariant-loop-first : goal.invariant-loop-first
-invariant-loop-first l = Printed l.input l.initial.out l.out l.rest l.at l.number l.next
+invariant-loop-first l = Printed l.input l.rest l.initial.writer l.writer l.number
 
 abbrev pub decreases-loop-first : goal.decreases-loop-first
 decreases-loop-first l = length l.rest
