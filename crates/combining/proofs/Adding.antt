@@ -1,20 +1,18 @@
 -- The sums of a group are gone through one by one, and those that pass the test follow the rings found. Assumes nothing.
-use mathlib.Core.Path.{◌≡◌, sym, ap, ap₂, subst⁻¹, ◌∙◌}
+use mathlib.Core.Path.{◌≡◌, sym, ap, ap₂, ◌∙◌}
 use mathlib.Core.Bool.{Bool, true, false}
 use mathlib.Core.List.{List, [], ◌∷◌, ◌++◌}
 use Prim.Native.Nat.{ℕ, ◌+◌, ◌-◌, ◌*◌, ◌<◌, ◌≤◌}
 use native.Mathlib.Numerals.{add-one}
 use native.Mathlib.Omega.{arith}
 use lib.ListN.{length, take, drop, get_or, set, length-append, length-drop, take-append-drop}
-use lib.Seq.{take-suc}
+use lib.Seq.{take-suc, take-length, length-take-le, drop-drop}
 use Rattle.std.proofs.lemmas.List.{drop-take}
 use Rattle.sets.specs.Lists.{sets_in, words, words_of}
-use Rattle.sets.proofs.Lists.{sets-drop, sets-take, words_are, words-between}
-use Rattle.definitions.specs.Search.{keep}
+use Rattle.sets.proofs.Lists.{sets-append, sets-drop, sets-length, sets-take, words_are, words-between}
 use Rattle.definitions.proofs.Lists.{keep-nil, keep-take, keep_skip, keep_append}
 use Rattle.lent.specs.Appended.{between, Room, Appended}
 use Rattle.lent.proofs.Appending.{appended_none, appended_byte, appended_as, appended_more, appended_length}
-use Rattle.lent.proofs.Between.{appended_kept}
 use Rattle.combining.specs.Gibbs.{clear?, rings_among}
 
 -- where there is room for all, there is room for those that follow the first of them
@@ -35,80 +33,88 @@ sets_between from to ws h few =
     rest : sets_in (drop (words_of from) ws) ≡ drop from (sets_in ws)
     rest = sets-drop from ws (omega arith)
 
--- ---- a sum follows where none of the rings from one place up to another lies inside it
+-- ---- the loop over a group: those of its first j sums that are rings are put from the start of a list on
 
-module _ (from to : ℕ) (ws : List ℕ) (s : ℕ) {n : ℕ} {b : Bool}
-    (o : (from ≤ to) × (to ≤ n) × Room (rings_among (between from to (sets_in ws)) (s ∷ [])) (sets_in ws) n)
-    (test : b ≡ clear? (sets_in (take (to * words - from * words) (drop (from * words) ws))) s) where
-  abbrev p : ℕ → Bool
-  p = clear? (between from to (sets_in ws))
-
-  -- the test is of these rings
-  passes : b ≡ p s
-  passes = test ∙ ap (λ l. clear? l s) (sets_between from to ws o.0 (omega (arith, o.1, o.2)))
-
-  -- where it passes it is kept
-  kept : b ≡ true → keep p (s ∷ []) ≡ s ∷ []
-  kept e = keep-take p s [] (sym passes ∙ e) ∙ ap (λ l. s ∷ l) (keep-nil p)
-
-  -- so there is room for it
-  pub sum_room : b ≡ true → n < length (sets_in ws)
-  sum_room e = omega (arith, o.2, ap length (kept e))
-
-  -- and it follows
-  pub sum_taken : {end : List ℕ} → b ≡ true → end ≡ set (sets_in ws) n s → Appended (sets_in ws) n (keep p (s ∷ [])) end (n + 1)
-  sum_taken e put = rw put (appended_as (sym (kept e)) (appended_byte (sets_in ws) n s (sum_room e)))
-
-  -- where it does not pass nothing follows
-  pub sum_left : b ≡ false → Appended (sets_in ws) n (keep p (s ∷ [])) (sets_in ws) n
-  sum_left e = appended_as (sym (keep_skip p s [] (sym passes ∙ e) ∙ keep-nil p)) (appended_none (sets_in ws) n)
-
--- ---- the loop over a group: those of its first j sums that are rings follow the rings found before it
-
--- a sum is a ring where none of the rings found before lies inside it
-pub record Adding (sums start : List ℕ) (from n : ℕ) (found : List ℕ) (count j : ℕ) : Type 0 where
-  pub lent : Room (rings_among (between from n start) sums) start n
-  pub appended : Appended start n (rings_among (between from n start) (take j sums)) found count
+-- a sum is a ring where none of the rings olds lies inside it
+pub record Adding (olds sums start found : List ℕ) (n j : ℕ) : Type 0 where
+  pub lent : Room (rings_among olds sums) start 0
+  pub appended : Appended start 0 (rings_among olds (take j sums)) found n
 
 -- before the first sum
-pub adding_none : {sums start : List ℕ} {from n : ℕ} → Room (rings_among (between from n start) sums) start n → Adding sums start from n start n 0
-adding_none {sums} {start} {from} {n} o = record { lent = o; appended = appended_as (sym (keep-nil (clear? (between from n start)))) (appended_none start n) }
+pub adding_none : (olds sums start : List ℕ) → Room (rings_among olds sums) start 0 → Adding olds sums start start 0 0
+adding_none olds sums start o = record { lent = o; appended = appended_as (sym (keep-nil (clear? olds))) (appended_none start 0) }
 
-module _ {sums start : List ℕ} {from n : ℕ} {found : List ℕ} {count j : ℕ} (a : Adding sums start from n found count j) where
-  -- the rings found before
-  abbrev olds : List ℕ
-  olds = between from n start
+module _ {olds sums start found : List ℕ} {n j : ℕ} (a : Adding olds sums start found n j) (h : j < length sums) {w : ℕ} {b : Bool}
+    (is : w ≡ get_or sums j 0) (test : b ≡ clear? olds w) where
+  -- one sum more
+  next : rings_among olds (take j sums) ++ rings_among olds (w ∷ []) ≡ rings_among olds (take (j + 1) sums)
+  next =
+      sym (keep_append (clear? olds) (take j sums) (w ∷ []))
+      ∙ ap (rings_among olds) (rw (add-one, is) (sym (take-suc sums j 0 h)))
 
-  -- they are where they were
-  same : between from n found ≡ olds
-  same = appended_kept (omega (arith, a.lent)) a.appended from n (omega arith)
+  -- with what follows it
+  more : {end : List ℕ} {r : ℕ} → Appended found n (rings_among olds (w ∷ [])) end r → Adding olds sums start end r (j + 1)
+  more t = record { lent = a.lent; appended = appended_as next (appended_more (omega arith) a.appended t) }
 
-  module _ (h : j < length sums) {w : ℕ} (is : w ≡ get_or sums j 0) where
-    -- one sum more
-    next : rings_among olds (take j sums) ++ rings_among olds (w ∷ []) ≡ rings_among olds (take (j + 1) sums)
-    next =
-        sym (keep_append (clear? olds) (take j sums) (w ∷ []))
-        ∙ ap (rings_among olds) (rw (add-one, is) (sym (take-suc sums j 0 h)))
+  -- where it passes the test it is kept
+  kept : b ≡ true → rings_among olds (w ∷ []) ≡ w ∷ []
+  kept e = keep-take (clear? olds) w [] (sym test ∙ e) ∙ ap (λ l. w ∷ l) (keep-nil (clear? olds))
 
-    -- there is room for the next
-    pub adding_room : Room (rings_among (between from n found) (w ∷ [])) found count
-    adding_room =
-        subst⁻¹ (λ l. Room (rings_among l (w ∷ [])) found count) same
-        (appended_room (rings_among olds (w ∷ [])) (rings_among olds sums) a.appended a.lent
-        (omega (
-          arith,
-          ap length next,
-          length-append (rings_among olds (take j sums)) (rings_among olds (w ∷ [])),
-          ap (λ l. length (rings_among olds l)) (take-append-drop (j + 1) sums),
-          ap length (keep_append (clear? olds) (take (j + 1) sums) (drop (j + 1) sums)),
-          length-append (rings_among olds (take (j + 1) sums)) (rings_among olds (drop (j + 1) sums)),
-        )))
+  -- so there is room for it
+  pub adding_room : b ≡ true → n < length found
+  adding_room e =
+      let left = appended_room (rings_among olds (w ∷ [])) (rings_among olds sums) a.appended a.lent
+      (omega (
+        arith,
+        ap length next,
+        length-append (rings_among olds (take j sums)) (rings_among olds (w ∷ [])),
+        ap (λ l. length (rings_among olds l)) (take-append-drop (j + 1) sums),
+        ap length (keep_append (clear? olds) (take (j + 1) sums) (drop (j + 1) sums)),
+        length-append (rings_among olds (take (j + 1) sums)) (rings_among olds (drop (j + 1) sums)),
+      )) in
+      omega (arith, left, ap length (kept e))
 
-    -- the next
-    pub adding_more : {end : List ℕ} {r : ℕ} → Appended found count (rings_among (between from n found) (w ∷ [])) end r → Adding sums start from n end r (j + 1)
-    adding_more {end} {r} b = record {
-      lent = a.lent;
-      appended =
-          appended_as next
-          (appended_more (omega (arith, a.lent)) a.appended (appended_as (ap (λ l. rings_among l (w ∷ [])) same) b));
-    }
+  -- and it follows
+  pub adding_taken : {end : List ℕ} → b ≡ true → end ≡ set found n w → Adding olds sums start end (n + 1) (j + 1)
+  adding_taken e put = rw put (more (appended_as (sym (kept e)) (appended_byte found n w (adding_room e))))
+
+  -- where it does not pass nothing follows
+  pub adding_left : b ≡ false → Adding olds sums start found n (j + 1)
+  adding_left e = more (appended_as (sym (keep_skip (clear? olds) w [] (sym test ∙ e) ∙ keep-nil (clear? olds))) (appended_none found n))
+
+-- after the last sum
+pub adding_all : {olds sums start found : List ℕ} {n j : ℕ} → Adding olds sums start found n j → j ≡ length sums → Appended start 0 (rings_among olds sums) found n
+adding_all {olds} {sums} a h = appended_as (ap (rings_among olds) (rw h (take-length sums))) a.appended
+
+-- ---- the list of the rings found in two parts: the first r, and what is behind them
+
+module _ (r : ℕ) (ws : List ℕ) (few : r ≤ length (sets_in ws)) {front back : List ℕ} (is_front : front ≡ take (r * words) ws) (is_back : back ≡ drop (r * words) ws) where
+  sets_front : sets_in front ≡ take r (sets_in ws)
+  sets_front = rw (is_front, ← (words_are r)) (sets-take r ws few)
+
+  sets_back : sets_in back ≡ drop r (sets_in ws)
+  sets_back = rw (is_back, ← (words_are r)) (sets-drop r ws few)
+
+  long_front : length front ≡ r * words
+  long_front = rw is_front (length-take-le (r * words) ws (omega (arith, few, sets-length ws)))
+
+  -- the first of them from one place on
+  pub sets_found : (n : ℕ) → n ≤ r → sets_in (take (length front - n * words) (drop (n * words) front)) ≡ between n r (sets_in ws)
+  sets_found n h =
+      ap sets_in (ap (λ k. take k (drop (n * words) front)) (sym (length-drop (n * words) front)) ∙ take-length (drop (n * words) front))
+      ∙ ap (λ k. sets_in (drop k front)) (sym (words_are n))
+      ∙ sets-drop n front (omega (arith, h, ap length sets_front, length-take-le r (sets_in ws) few))
+      ∙ ap (drop n) sets_front
+
+  -- there is the same room
+  pub room_behind : (new : List ℕ) → Room new (sets_in ws) r → Room new (sets_in back) 0
+  room_behind new h = omega (arith, h, ap length sets_back, length-drop r (sets_in ws))
+
+  -- what is put from the start of the second part on follows the first
+  pub appended_behind : {new : List ℕ} (end : List ℕ) {k : ℕ} → Appended (sets_in back) 0 new (sets_in end) k → Appended (sets_in ws) r new (sets_in (front ++ end)) (r + k)
+  appended_behind {new} end {k} a = record {
+    end = omega (arith, a.end);
+    list =
+        sets-append r front end (long_front ∙ sym (words_are r))
+        ∙ ap₂ (λ l m. l ++ m) sets_front (a.list ∙ ap (λ m. new ++ m) (ap (drop k) sets_back ∙ drop-drop k r (sets_in ws)));
+  }

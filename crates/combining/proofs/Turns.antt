@@ -181,15 +181,15 @@ module _ {rings : List ℕ} {s : ℕ} {start : List ℕ} {n : ℕ} {sums : List 
           ∙ drop_at (take half sums) (group ring (take half sums)) half (length-take-le half sums (omega (arith, turned_few)))
           ∙ ap₂ group is t.list
 
-      module _ {sum : List ℕ} (part : sum ≡ between half (half + half) sums') where
+      module _ {olds sum : List ℕ} (found_before : olds ≡ between n r found) (part : sum ≡ between half (half + half) sums') where
         -- the rings that are found in it
         abbrev new : List ℕ
-        new = rings_among (between n r found) sum
+        new = rings_among olds sum
 
         -- what is found with it
         found-with : combined before ++ new ≡ combined (before ++ ring_at rings i ∷ [])
         found-with =
-            ap₂ (λ l g. combined before ++ rings_among l g) (appended_new (omega (arith, t.lent)) t.appended) (part ∙ its_group)
+            ap₂ (λ l g. combined before ++ rings_among l g) (found_before ∙ appended_new (omega (arith, t.lent)) t.appended) (part ∙ its_group)
             ∙ sym (rings_snoc (0 ∷ []) [] before (ring_at rings i))
 
         -- there is room for what is found in it

@@ -9,7 +9,7 @@ ghost use Rattle.sets.specs.Bond.{bits};
 ghost use Rattle.sets.specs.Ring as superset;
 ghost use Rattle.sets.specs.Lists.{sets_in};
 ghost use Rattle.definitions.specs.Search.{picked};
-ghost use Rattle.lent.specs.Appended.{Room, Appended, between};
+ghost use Rattle.lent.specs.Appended.{Room, Appended};
 ghost use Rattle.combining.specs.Gibbs.{clear?, rings_among, combined, Doubled};
 
 use answers::BASIS_WORDS;
@@ -47,30 +47,21 @@ fn is_ring(rings: &[u64], sum: BondSet) -> bool
     true
 }
 
-// A sum follows the rings found where it is a ring, which those from one place up to another tell.
-fn add_sum(sum: BondSet, found: &mut [u64], from: usize, to: usize, n: usize) -> usize
-    requires { (from ≤ to) × (to ≤ n) × (Room (rings_among (between from to (sets_in found.old)) (bits sum ∷ [])) (sets_in found.old) n) }
-    ensures long { length found.new ≡ length found.old }
-    ensures added { Appended (sets_in found.old) n (rings_among (between from to (sets_in found.old)) (bits sum ∷ [])) (sets_in found.new) result }
+// The rings of a group, told by the rings found before it, are put from the start of a list on; how many there are.
+fn add_group(group: &[u64], rings: &[u64], out: &mut [u64]) -> usize
+    requires { Room (rings_among (sets_in rings.now) (sets_in group.now)) (sets_in out.old) 0 }
+    ensures long { length out.new ≡ length out.old }
+    ensures added { Appended (sets_in out.old) 0 (rings_among (sets_in rings.now) (sets_in group.now)) (sets_in out.new) result }
 {
-    if is_ring(&found[from * WORDS..to * WORDS], sum) {
-        sum.put_at(found, n);
-        return n + 1;
+    let mut n: usize = 0;
+    for j in 0..sets_in(group) {
+        let sum = BondSet::at(group, j);
+        if is_ring(rings, sum) {
+            sum.put_at(out, n);
+            n += 1;
+        }
     }
     n
-}
-
-// The rings of a group, which are told by the rings found before it from one place on, follow these.
-fn add_group(group: &[u64], found: &mut [u64], from: usize, n: usize) -> usize
-    requires { (from ≤ n) × (Room (rings_among (between from n (sets_in found.old)) (sets_in group.now)) (sets_in found.old) n) }
-    ensures long { length found.new ≡ length found.old }
-    ensures added { Appended (sets_in found.old) n (rings_among (between from n (sets_in found.old)) (sets_in group.now)) (sets_in found.new) result }
-{
-    let mut count = n;
-    for j in 0..sets_in(group) {
-        count = add_sum(BondSet::at(group, j), found, from, n, count);
-    }
-    count
 }
 
 // The rings of an assembly, given by the places of its basis rings, follow the rings found. Its sums stand in a list of their own.
@@ -91,7 +82,9 @@ pub fn add_assembly(
     let mut count = n;
     for i in members {
         double(sums, half, BondSet::at(rings, i));
-        count = add_group(&sums[half * WORDS..(half + half) * WORDS], found, n, count);
+        let group = &sums[half * WORDS..(half + half) * WORDS];
+        let (before, after) = found.split_at_mut(count * WORDS);
+        count += add_group(group, &before[n * WORDS..], after);
         half = half + half;
     }
     count
