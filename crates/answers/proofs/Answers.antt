@@ -19,7 +19,7 @@ use Rattle.std.proofs.lemmas.Result.{err_from_is_err_and}
 use Rattle.sets.specs.Lists.{in_words, words_of}
 use Rattle.sets.proofs.Lists.{in_words-length}
 use Rattle.definitions.specs.Answer.{Outcome, outcome_of, outcome, over, written, written_sets, counted}
-use Rattle.answers.specs.Told.{number_of, told, Numbered}
+use Rattle.answers.specs.Told.{number_of, told, AnswerOf}
 use Rattle.answers.specs.declared.answer.Answer.{Answer}
 use Rattle.answers.specs.declared.refusal.Refusal.{Refusal}
 use Rattle.answers.specs.declared.refusal.Refusal.TheVariants.{Odd, Atoms, Bonds, End, SelfBond, Twice, Tangled, Room, NotRing}
@@ -41,7 +41,7 @@ pub passed : {A : Type 0} (r : Result ℕ Refusal) (e : Refusal) (left : A) → 
 passed r e left same = let p = err_from_is_err_and r same in ap (λ (t : Result ℕ Refusal). told t left) (p.1 ∙ ap (λ (d : Refusal). Err d) p.2)
 
 -- an answer has the numbers of what is told
-pub numbered : {A : Type 0} (r : Result ℕ Refusal) (a : Answer) (left : A) {o : Outcome A} → Numbered r a → told r left ≡ o → outcome_of a.number a.count left ≡ o
+pub numbered : {A : Type 0} (r : Result ℕ Refusal) (a : Answer) (left : A) {o : Outcome A} → AnswerOf r a → told r left ≡ o → outcome_of a.number a.count left ≡ o
 numbered r a left n e = ap₂ (λ (m k : ℕ). outcome_of m k left) n.0 n.1 ∙ e
 
 -- a number above 0 comes after one

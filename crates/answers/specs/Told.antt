@@ -33,5 +33,5 @@ abbrev pub told : {A : Type 0} → Result ℕ Refusal → A → Outcome A
 told r left = outcome_of (code_of r) (count_of r) left
 
 -- the answer has the numbers of what is told
-abbrev pub Numbered : Result ℕ Refusal → Answer → Type 0
-Numbered r a = (a.number ≡ code_of r) × (a.count ≡ count_of r)
+abbrev pub AnswerOf : Result ℕ Refusal → Answer → Type 0
+AnswerOf r a = (a.number ≡ code_of r) × (a.count ≡ count_of r)

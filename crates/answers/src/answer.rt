@@ -1,5 +1,5 @@
 // What C gets back: a number and a count.
-ghost use Rattle.answers.specs.Told.{Numbered};
+ghost use Rattle.answers.specs.Told.{AnswerOf};
 
 use super::refusal::Refusal;
 
@@ -13,7 +13,7 @@ pub struct Answer {
 }
 
 impl From<Result<usize, Refusal>> for Answer {
-    ghost from_gives = { λ told answer. Numbered told answer };
+    ghost from_gives = { λ told answer. AnswerOf told answer };
 
     fn from(told: Result<usize, Refusal>) -> Answer {
         match told {

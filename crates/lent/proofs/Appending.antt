@@ -1,7 +1,6 @@
 -- What is written into a lent list from a place on: what is appended, and the invariants of those who append.
 --     over                              items over the start of a list: over-length
 --     Appended                          nothing, a byte, one text after another; what is appended from the start stands over the list
---     Spelt text lent out at i          a loop that stores a text byte by byte: i bytes are stored
 --     Strung f N lent out at next k     a loop that appends N texts f 0, f 1, ..: k are appended
 -- Each has laws `-none` at the start, `-more` for one turn, `-room` and `-length` at any, `-all` at the end. Assumes nothing.
 use mathlib.Core.Path.{◌≡◌, refl, sym, ap, ◌∙◌}
@@ -9,8 +8,8 @@ use mathlib.Core.List.{List, [], ◌∷◌, ◌++◌, append_assoc}
 use Prim.Native.Nat.{ℕ, ◌+◌, ◌<◌, ◌≤◌}
 use native.Mathlib.Numerals.{add-one}
 use native.Mathlib.Omega.{arith}
-use lib.ListN.{length, get_or, take, drop, set, length-append, length-drop, take-append-drop}
-use lib.Seq.{set_split, take_at, drop_at, drop-drop, length-take-le, take_all, paste, paste-zero, paste-suc, length-paste}
+use lib.ListN.{length, take, drop, set, length-append, length-drop, take-append-drop}
+use lib.Seq.{set_split, take_at, drop_at, drop-drop, length-take-le}
 use Rattle.definitions.specs.Search.{gather}
 use Rattle.definitions.specs.Answer.{over}
 use Rattle.definitions.proofs.Lists.{gather_step, gather-zero, gather_mono}
@@ -81,39 +80,6 @@ appended_four {s = s} {t} {u} {v} h a b c d = appended_as (simp append_assoc) (a
 pub appended_over : {l m s : List ℕ} {n : ℕ} → Appended l 0 s m n → m ≡ over s l
 unfolding over
 appended_over {l} {m} {s} {n} a = let e : n ≡ length s = omega (arith, a.end) in a.list ∙ ap (λ (k : ℕ). s ++ drop k l) e
-
--- ---- a text byte by byte
-
-pub record Spelt (text lent out : List ℕ) (at i : ℕ) : Type 0 where
-  pub within : i ≤ length text
-  pub room : at + length text ≤ length lent
-  pub list : out ≡ paste lent at text i
-
--- before the first byte the list is as lent
-pub spelt_none : (text lent : List ℕ) (at : ℕ) → at + length text ≤ length lent → Spelt text lent lent at 0
-spelt_none text lent at h = record { within = omega arith; room = h; list = paste-zero lent at text }
-
-module _ {text lent out : List ℕ} {at i : ℕ} (s : Spelt text lent out at i) where
-  -- the list keeps its length
-  pub spelt_length : length out ≡ length lent
-  spelt_length = ap length s.list ∙ length-paste lent at text i (omega (arith, s.within, s.room)) s.within
-
-  -- the next byte is stored at its place
-  pub spelt_more : {x : ℕ} → i < length text → x ≡ get_or text i 0 → Spelt text lent (set out (at + i) x) at (i + 1)
-  spelt_more {x} h e = record {
-    within = omega arith;
-    room = s.room;
-    list = rw (s.list, e, add-one) (paste-suc lent at text i 0 (omega (arith, s.room)) h);
-  }
-
-  -- after the last byte the text is appended
-  pub spelt_all : {n : ℕ} → n ≡ length text → n ≤ i → Appended lent at text out (at + n)
-  spelt_all {n} e h =
-      let q : i ≡ n = omega (arith, s.within) in
-      record {
-        end = ap (λ (k : ℕ). at + k) e;
-        list = s.list ∙ append_assoc (take at lent) (take i text) (drop (at + i) lent) ∙ rw (take_all i text (omega arith), q);
-      }
 
 -- ---- texts one after another
 

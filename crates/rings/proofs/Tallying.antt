@@ -40,7 +40,7 @@ use Rattle.combining.proofs.Exactly.{combined-sum}
 use Rattle.ordering.specs.Sizes.{Countable, Tallied}
 use Rattle.ordering.proofs.Sizing.{occurs-le, Tallying, tallying_none, tallying_more}
 use Rattle.choosing.specs.Elimination.{Choosable, Selected}
-use Rattle.rings.specs.Tally.{most_in_one, most_in_all, rings_of, Open, Both, Single, Alone, Separate}
+use Rattle.rings.specs.Tally.{most_in_one, most_in_all, own_rings, Open, Both, Single, Alone, Separate}
 use Rattle.rings.specs.declared.assembly.Assembly.{Assembly}
 use Rattle.rings.specs.declared.histograms.Histograms.{Histograms}
 use Rattle.perception.proofs.Perceiving.{all_found-most}
@@ -181,11 +181,11 @@ module _ {assembly : Assembly} {i : ℕ} (s : Single assembly) (b : bits assembl
 
   -- and it is counted, and taken
   pub both_single : {h : Histograms} {z r : ℕ} → Open h most_in_one → z ≡ size (get_or rings i 0) → z < all_sizes → r ≡ max h.top (z + 1)
-      → Both (rings_of assembly) h (record { all = set h.all z (get_or h.all z 0 + 1); smallest = set h.smallest z (get_or h.smallest z 0 + 1); top = r })
+      → Both (own_rings assembly) h (record { all = set h.all z (get_or h.all z 0 + 1); smallest = set h.smallest z (get_or h.smallest z 0 + 1); top = r })
   both_single {h} {z} {r} c e l is = record {
     all = subst⁻¹ (λ sets. Tallied sets h.all h.top (set h.all z (get_or h.all z 0 + 1)) r) single_found (tallied_one (get_or rings i 0) c.all e l is);
     smallest = subst⁻¹ (λ sets. Tallied sets h.smallest h.top (set h.smallest z (get_or h.smallest z 0 + 1)) r)
-        (taken_alone (rings_of assembly) (ap length single_found) s.some ∙ single_found)
+        (taken_alone (own_rings assembly) (ap length single_found) s.some ∙ single_found)
         (tallied_one (get_or rings i 0) c.smallest e l is);
   }
 

@@ -23,12 +23,12 @@ abbrev pub most_in_all : ℕ
 most_in_all = max_bonds * most_in_one
 
 -- the basis rings of an assembly
-abbrev pub basis_of : Assembly → List ℕ
-basis_of assembly = picked (sets_in assembly.rings.now) (bits assembly.members)
+abbrev pub own_basis : Assembly → List ℕ
+own_basis assembly = picked (sets_in assembly.rings.now) (bits assembly.members)
 
 -- what the combination finds in it
-abbrev pub rings_of : Assembly → List ℕ
-rings_of assembly = combined (basis_of assembly)
+abbrev pub own_rings : Assembly → List ℕ
+own_rings assembly = combined (own_basis assembly)
 
 -- so many rings more can be counted, and so many of a smallest basis
 pub record Open (h : Histograms) (n : ℕ) : Type 0 where
@@ -54,7 +54,7 @@ Combinable assembly m = Alone (sets_in assembly.rings.now) (bits assembly.member
 -- a ring that is alone in its assembly
 pub record Single (assembly : Assembly) : Type 0 where
   pub one : size (bits assembly.members) ≡ 1
-  pub some : (x : ℕ) → In x (rings_of assembly) → x ≢ 0
+  pub some : (x : ℕ) → In x (own_rings assembly) → x ≢ 0
 
 -- the first n assemblies, given by their sets of basis rings: what is found in one shares no bond with what is found in another
 pub record Separate (rings members : List ℕ) (n m : ℕ) : Type 0 where

@@ -4,7 +4,7 @@ ghost use Rattle.sets.specs.Bond as bond;
 ghost use Rattle.sets.specs.Ring as ring;
 ghost use Rattle.definitions.specs.Search.{union_of};
 ghost use Rattle.definitions.specs.Label.{pair_of};
-ghost use Rattle.rings.specs.Tally.{basis_of};
+ghost use Rattle.rings.specs.Tally.{own_basis};
 
 use answers::BASIS_WORDS;
 use sets::{BondSet, RingSet, WordSet};
@@ -22,7 +22,7 @@ pub(crate) struct Assembly<'a> {
 impl Assembly<'_> {
     // Its bonds: the union of its basis rings.
     fn bonds(self) -> BondSet
-        ensures { bond.bits result ≡ union_of (basis_of self.entry) }
+        ensures { bond.bits result ≡ union_of (own_basis self.entry) }
     {
         let rings = self.rings;
         let mut union = BondSet::EMPTY;
@@ -34,7 +34,7 @@ impl Assembly<'_> {
 
     // Its pair as one number: how many basis rings, times 256, and how many bonds. Pairs rise as numbers.
     pub(crate) fn pair(self) -> u64
-        ensures { result ≡ pair_of (basis_of self.entry) }
+        ensures { result ≡ pair_of (own_basis self.entry) }
     {
         self.members.size() as u64 * FIRST + self.bonds().size() as u64
     }

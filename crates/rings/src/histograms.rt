@@ -3,7 +3,7 @@
 ghost use Rattle.std.specs.Prelude.{◌/◌, ◌^◌, ◌<◌, length};
 ghost use Rattle.sets.specs.Lists.{words};
 ghost use Rattle.perception.specs.Perceiving.{many};
-ghost use Rattle.rings.specs.Tally.{most_in_one, rings_of, Open, Both, Single, Combinable};
+ghost use Rattle.rings.specs.Tally.{most_in_one, own_rings, Open, Both, Single, Combinable};
 
 use super::assembly::Assembly;
 use answers::{BASIS_WORDS, SIZES};
@@ -30,7 +30,7 @@ impl Histograms {
     // Counts a ring that is alone in its assembly: it is its own smallest basis.
     fn count_alone(&mut self, assembly: Assembly)
         requires { Single assembly × Open self.old most_in_one }
-        ensures { Both (rings_of assembly.entry) self.old self.new }
+        ensures { Both (own_rings assembly.entry) self.old self.new }
     {
         let rings = assembly.rings;
         let size = BondSet::at(rings, assembly.members.next(0)).size();
@@ -42,7 +42,7 @@ impl Histograms {
     // Counts the rings of an assembly, and those of its smallest basis, in two lists with room.
     fn count_assembly(&mut self, assembly: Assembly, found: &mut [u64], ordered: &mut [u64])
         requires { Combinable assembly (length found.old / words) × Combinable assembly (length ordered.old / words) × Open self.old most_in_one }
-        ensures { Both (rings_of assembly.entry) self.old self.new }
+        ensures { Both (own_rings assembly.entry) self.old self.new }
     {
         let n = add_assembly(assembly.rings, assembly.members, ordered, found, 0);
         let all_found = &found[..n * WORDS];
@@ -59,7 +59,7 @@ impl Histograms {
     #[inline(never)]
     fn count_in<const LONG: usize>(&mut self, assembly: Assembly)
         requires { (LONG < 2 ^ 60) × Combinable assembly (LONG / words) × Open self.old most_in_one }
-        ensures { Both (rings_of assembly.entry) self.old self.new }
+        ensures { Both (own_rings assembly.entry) self.old self.new }
     {
         let mut found = [0u64; LONG];
         let mut ordered = [0u64; LONG];
@@ -69,7 +69,7 @@ impl Histograms {
     // Counts them in the shortest lists that have room for the assembly's sums; a ring that is alone needs none.
     pub(crate) fn count(&mut self, assembly: Assembly)
         requires { Combinable assembly many × Open self.old most_in_one }
-        ensures { Both (rings_of assembly.entry) self.old self.new }
+        ensures { Both (own_rings assembly.entry) self.old self.new }
     {
         let size = assembly.members.size();
         if size == 1 {

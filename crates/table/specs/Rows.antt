@@ -13,7 +13,7 @@ pub record Rowed (bs : List ℕ) (k : ℕ) (rows : List ℕ) : Type 0 where
   pub row : (a : ℕ) → a < max_atoms → get_or (sets_in rows) a 0 ≡ set_of k (meets? (bonds_alone bs) a)
 
 -- a pair of atoms that is bonded twice is told, and where there is none the rows are by all bonds
-pub record Filled (bs : List ℕ) (r : Result Unit Refusal) (rows : List ℕ) : Type 0 where
+pub record RowsFilled (bs : List ℕ) (r : Result Unit Refusal) (rows : List ℕ) : Type 0 where
   pub twice : code_of r ≡ cond (some? (length bs / 2) (seen_before? (bonds_alone bs))) TWICE 0
   pub filled : OnOk r (Rowed bs (length bs / 2) rows)
 

@@ -4,7 +4,7 @@ ghost use Rattle.definitions.specs.Search.{some?};
 ghost use Rattle.definitions.specs.Table as spec;
 ghost use Rattle.table.specs.Ends.{bonds_alone, Fitting};
 ghost use Rattle.answers.specs.Told.{code_of};
-ghost use Rattle.table.specs.Rows.{Rowed, Filled, TableTested};
+ghost use Rattle.table.specs.Rows.{Rowed, RowsFilled, TableTested};
 
 use super::ends::ends_of;
 use answers::{ATOM_WORDS, MAX_ATOMS, MAX_BONDS, Refusal};
@@ -52,7 +52,7 @@ fn wrong_ends(atoms: u64, bonds: &[u8]) -> WrongEnds
 // that bond is found in the rows of both. No bond joins an atom to itself here. The rows are by all bonds where no pair is bonded twice.
 fn fill_rows(bonds: &[u8], rows: &mut [u64; ATOM_WORDS]) -> Result<(), Refusal>
     requires { Fitting bonds.now × ((k : ℕ) → k < length bonds.now / 2 → spec.self_bond? (bonds_alone bonds.now) k ≡ false) × Rowed bonds.now 0 rows.old }
-    ensures { Filled bonds.now result rows.new }
+    ensures { RowsFilled bonds.now result rows.new }
 {
     for k in 0..bonds.len() / 2 {
         let ends = ends_of(bonds, k);
