@@ -44,7 +44,7 @@ told_below {counts = counts} {top} s z h =
     (λ t. get_or-take top counts z 0 (ltb-true z top t) ∙ s.told z h)
     (λ t. get_or-eq_default (take top counts) 0 (omega (arith, length-take-le top counts (omega (arith, s.long, s.within)), ltb-false z top t)) ∙ sym (s.none z (ltb-false z top t)) ∙ s.told z h)
 
-module _ {M : Table} {c : Counts} {h : Histograms} {pairs : List ℕ} (t : CountsOf M (Ok c) h pairs) where
+module _ {M : Table} {c : Counts} {start h : Histograms} {lent pairs : List ℕ} (t : CountsOf M (Ok c) start h lent pairs) where
   zero-given : refusal_of_rings M ≡ 0
   zero-given = sym t.number
 

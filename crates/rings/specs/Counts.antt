@@ -25,8 +25,8 @@ pub record Counted (M : Table) (c : Counts) (h : Histograms) (pairs : List ℕ) 
   pub few : c.pairs ≤ max_bonds
   pub rising : take c.pairs pairs ≡ assembly_pairs M
 
--- r tells why the table is refused, with nothing counted, or what is counted
-pub record CountsOf (M : Table) (r : Result Counts Refusal) (h : Histograms) (pairs : List ℕ) : Type 0 where
+-- r tells why the table is refused, with nothing counted and no pair written, or what is counted
+pub record CountsOf (M : Table) (r : Result Counts Refusal) (start end : Histograms) (lent pairs : List ℕ) : Type 0 where
   pub number : code_of r ≡ refusal_of_rings M
-  pub refused : OnErr r (Blank h.all × Blank h.smallest)
-  pub accepted : IfOk r (λ c. Counted M c h pairs)
+  pub refused : OnErr r ((end ≡ start) × (pairs ≡ lent))
+  pub accepted : IfOk r (λ c. Counted M c end pairs)
