@@ -16,8 +16,8 @@ returns c =
     let bytes = c.args.bytes.now in
     record {
       room = c.requires;
-      same = refl;
       appended =
           appended_part c.args.writer.now.out.now (rw c.unwrap.ensures at c.encode_to_slice.ensures.written ∙ encoded-hex bytes (λ i. omega (arith, c.type_inv.bytes i)))
           (omega (arith, length-hex bytes)) (omega (arith, length-hex bytes));
+      same = refl;
     }
