@@ -1,7 +1,7 @@
 -- The loop over the records: what is printed so far, and the lines of what is left, are the lines of the whole input. Assumes nothing.
-use mathlib.Core.Path.{◌≡◌, refl, sym, ap, ◌∙◌}
+use mathlib.Core.Path.{◌≡◌, sym, ap, ◌∙◌}
 use mathlib.Core.Bool.{true, false}
-use mathlib.Core.List.{List, [], ◌++◌, append_assoc}
+use mathlib.Core.List.{List, ◌++◌, append_assoc}
 use Prim.Native.Nat.{ℕ, ◌+◌, ◌-◌, ◌*◌, ◌^◌, ◌<◌, ◌≤◌}
 use native.Mathlib.Omega.{arith}
 use lib.ListN.{length, take, drop, length-drop}
@@ -12,7 +12,7 @@ use Rattle.definitions.specs.Ringline.{record_line, end_line, frame_line, max_in
 use Rattle.lent.specs.Appended.{Appended}
 use Rattle.lent.specs.Writes.{Writes}
 use Rattle.lent.specs.declared.Writer.{Writer}
-use Rattle.lent.proofs.Writing.{writes_none, writes_more, writes_as, writes_length}
+use Rattle.lent.proofs.Writing.{writes_more, writes_as, writes_length}
 use Rattle.ringline.specs.Counts.{IsPrefixLen}
 use Rattle.records.proofs.Records.{whole-fits}
 use Rattle.ringline.proofs.Lines.{lines, lines_end, lines_frame, lines-record}
@@ -25,17 +25,6 @@ pub record Printed (input left : List ℕ) (start now : Writer) (number : ℕ) :
   pub said : List ℕ
   pub text : Writes said start now
   pub rest : said ++ lines number left ≡ lines 1 input
-
--- before the first record nothing is written
-pub printed_none : (input : List ℕ) (start : Writer) → start.at + 7 * length input + 16 ≤ length start.out.now → Printed input input start start 1
-printed_none input start h = record {
-  first = omega arith;
-  counted = omega arith;
-  room = h;
-  said = [];
-  text = writes_none start (omega arith);
-  rest = refl;
-}
 
 module _ {input left : List ℕ} {start now : Writer} {number : ℕ} (p : Printed input left start now number) where
   -- few records come before the last

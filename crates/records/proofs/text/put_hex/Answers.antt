@@ -1,6 +1,7 @@
 -- The library's hex, two digits a byte, stands over its part of the list. Assumes nothing.
-use mathlib.Core.Path.{refl, ◌∙◌}
+use mathlib.Core.Path.{◌∙◌}
 use native.Mathlib.Omega.{arith}
+use borrow.Author.Rules.{rules}
 use Rattle.records.proofs.Digits.{encoded-hex, length-hex}
 use Rattle.records.proofs.Writing.{appended_part}
 use Rattle.records.proofs.text.put_hex.Goals as goal
@@ -16,8 +17,8 @@ returns c =
     let bytes = c.args.bytes.now in
     record {
       room = c.requires;
-      same = refl;
       appended =
           appended_part c.args.writer.now.out.now (rw c.unwrap.ensures at c.encode_to_slice.ensures.written ∙ encoded-hex bytes (λ i. omega (arith, c.type_inv.bytes i)))
           (omega (arith, length-hex bytes)) (omega (arith, length-hex bytes));
+      same = search rules;
     }
