@@ -5,7 +5,6 @@ use mathlib.Core.Path.{◌≡◌, refl, sym, ap, ◌∙◌}
 use mathlib.Core.Logic.{⊎_elim}
 use mathlib.Core.Bool.{Bool, true, false, ◌&&◌, ◌||◌, not, cond, and-false, or-true}
 use mathlib.Core.List.Memᴰ
-use mathlib.Core.List.Memᴰ.{not-nil as not-in-nil}
 use mathlib.Core.List.{List, [], ◌∷◌, ◌++◌, Memᴰ as In}
 use Prim.Native.Nat.{ℕ, ◌^◌, ◌<◌}
 use native.Mathlib.Omega.{arith}
@@ -117,15 +116,6 @@ pub record Passing (rs : List ℕ) (g h : Group) (xs : List ℕ) : Type 0 where
   pub fewer : Sub h.left g.left
   pub still : (j : ℕ) → has g.left j ≡ true → (In j xs → ⊥) → has h.left j ≡ true
   pub seen : h.left ≡ g.left → (j : ℕ) → In j xs → has h.left j ≡ true → meet (get_or rs j 0) h.bonds ≡ false
-
--- before the first ring
-pub passing_none : (rs : List ℕ) (g : Group) → Passing rs g g []
-passing_none rs g = record {
-  kept = λ first all o. o;
-  fewer = λ j t. t;
-  still = λ j t n. t;
-  seen = λ z j i. absurd (not-in-nil i);
-}
 
 module _ {rs : List ℕ} {g h : Group} {xs : List ℕ} {i : ℕ} (p : Passing rs g h xs) (turn : Turn room g.left xs i) where
   -- ring i is still left

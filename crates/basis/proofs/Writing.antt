@@ -4,7 +4,6 @@ use mathlib.Core.Path.{◌≡◌, refl, sym, ap, ◌∙◌}
 use mathlib.Core.Logic.{⊎_elim}
 use mathlib.Core.Bool.{Bool, true, false, ◌&&◌, cond}
 use mathlib.Core.List.Memᴰ
-use mathlib.Core.List.Memᴰ.{not-nil as not-in-nil}
 use mathlib.Core.List.{List, [], ◌∷◌, ◌++◌, Memᴰ as In}
 use Prim.Native.Nat.{ℕ, ◌+◌, ◌-◌, ◌^◌, ◌≤◌, ◌<◌}
 use native.Mathlib.Omega.{arith}
@@ -38,10 +37,6 @@ pub record Marked (a : ℕ) (xs before after : List ℕ) : Type 0 where
   pub long : length after ≡ length before
   pub taken : (j : ℕ) → In j xs → get_or after j 0 ≡ a
   pub other : (j : ℕ) → (In j xs → ⊥) → get_or after j 0 ≡ get_or before j 0
-
--- before the first
-pub marked_none : (a : ℕ) (l : List ℕ) → Marked a [] l l
-marked_none a l = record { long = refl; taken = λ j i. absurd (not-in-nil i); other = λ j n. refl }
 
 module _ {a : ℕ} {xs l out : List ℕ} (q : Marked a xs l out) where
   -- one more

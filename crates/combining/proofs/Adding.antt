@@ -82,10 +82,6 @@ module _ {olds sums start found : List ℕ} {n j : ℕ} (a : Adding olds sums st
   pub adding_left : b ≡ false → Adding olds sums start found n (j + 1)
   adding_left e = more (appended_as (sym (keep_skip (clear? olds) w [] (sym test ∙ e) ∙ keep-nil (clear? olds))) (appended_none found n))
 
--- after the last sum
-pub adding_all : {olds sums start found : List ℕ} {n j : ℕ} → Adding olds sums start found n j → j ≡ length sums → Appended start 0 (rings_among olds sums) found n
-adding_all {olds} {sums} a h = appended_as (ap (rings_among olds) (rw h (take-length sums))) a.appended
-
 -- ---- the list of the rings found in two parts: the first r, and what is behind them
 
 module _ (r : ℕ) (ws : List ℕ) (few : r ≤ length (sets_in ws)) {front back : List ℕ} (is_front : front ≡ take (r * words) ws) (is_back : back ≡ drop (r * words) ws) where

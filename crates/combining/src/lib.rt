@@ -47,7 +47,7 @@ fn is_ring(rings: &[u64], sum: BondSet) -> bool
     true
 }
 
-// The rings of a group, told by the rings found before it, are put from the start of a list on; how many there are.
+// The rings of a group, which the rings found before it tell, are put from the start of a list on. Gives how many there are.
 fn add_group(group: &[u64], rings: &[u64], out: &mut [u64]) -> usize
     requires { Room (rings_among (sets_in rings.now) (sets_in group.now)) (sets_in out.old) 0 }
     ensures long { length out.new ≡ length out.old }

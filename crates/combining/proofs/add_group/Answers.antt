@@ -1,7 +1,7 @@
 -- Before each turn those of the first j sums that are rings are put. Assumes nothing.
 use native.Mathlib.Omega.{arith}
 use Rattle.sets.proofs.Lists.{sets-length}
-use Rattle.combining.proofs.Adding.{adding_none, adding_room, adding_taken, adding_left, adding_all}
+use Rattle.combining.proofs.Adding.{adding_none, adding_room, adding_taken, adding_left}
 use Rattle.combining.proofs.add_group.Goals as goal
 use Rattle.combining.proofs.add_group.Goals.{then-is_ring, else-is_ring}
 
@@ -20,6 +20,3 @@ loop-j-preserved c =
       | then-is_ring w ↦ rw (w.n-is, w.out-is) (adding_taken c.loop-j.invariant (omega arith) c.at-sum.ensures c.is_ring.ensures w.if-is_ring.true w.put_at.ensures.sets)
       | else-is_ring w ↦ rw (w.n-is, w.out-is) (adding_left c.loop-j.invariant (omega arith) c.at-sum.ensures c.is_ring.ensures w.if-is_ring.false)
     ]
-
-pub returns-clause-added : goal.returns-clause-added
-returns-clause-added c = adding_all c.loop-j.invariant (omega arith)

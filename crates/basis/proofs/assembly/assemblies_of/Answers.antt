@@ -12,7 +12,7 @@ use Rattle.sets.specs.Lists.{sets_in}
 use Rattle.sets.proofs.Lists.{sets-whole}
 use Rattle.sets.proofs.Upward.{Turn, turn_of, turns_done}
 use Rattle.definitions.specs.Table.{max_bonds}
-use Rattle.basis.proofs.Numbering.{divided_none, divided_room, divided_more, divided_all, left_below}
+use Rattle.basis.proofs.Numbering.{divided_none, divided_room, divided_more, divided_all}
 use Rattle.basis.proofs.assembly.assemblies_of.Goals as goal
 use Rattle.basis.proofs.assembly.assemblies_of.Goals.{In-Some}
 
@@ -31,9 +31,6 @@ loop-first-init c = let whole = sets-whole max_bonds c.args.rings.now (search ru
 
 pub cluster_of-cluster-requires-clause-first : goal.cluster_of-cluster-requires-clause-first
 cluster_of-cluster-requires-clause-first c = (turn (goal.at.cluster_of-cluster-requires-clause-first c).In-Some).member
-
-pub cluster_of-cluster-requires-clause-inside : goal.cluster_of-cluster-requires-clause-inside
-cluster_of-cluster-requires-clause-inside c = left_below c.loop-first.invariant
 
 pub offset_bounds-found-a : goal.offset_bounds-found-a
 offset_bounds-found-a c = omega (arith, place (goal.at.offset_bounds-found-a c).In-Some)

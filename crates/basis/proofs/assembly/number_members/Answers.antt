@@ -5,7 +5,7 @@ use lib.ListN.{length}
 use borrow.Author.Rules.{rules}
 use Rattle.sets.proofs.Machine.{ring-lt}
 use Rattle.sets.proofs.Upward.{turn_of, turns_done}
-use Rattle.basis.proofs.Writing.{marked_none, marked_more, marked_all}
+use Rattle.basis.proofs.Writing.{marked_more, marked_all}
 use Rattle.basis.proofs.assembly.number_members.Goals as goal
 use Rattle.basis.proofs.assembly.number_members.Goals.{In-Some}
 
@@ -14,9 +14,6 @@ inside : (c : In-Some) → c.in-Some.i < length c.loop-i.out
 inside c =
     let turn = turn_of _ _ _ _ _ _ c.into_iter-i-iterator.ensures.into_iter_gives c.loop-i.yielded_by c.next.ensures.steps c.in-Some.is in
     omega (arith, c.requires c.in-Some.i turn.member, c.loop-i.invariant.long)
-
-pub loop-i-init : goal.loop-i-init
-loop-i-init c = marked_none _ _
 
 pub bounds-out-i : goal.bounds-out-i
 bounds-out-i c = inside (goal.at.bounds-out-i c).In-Some

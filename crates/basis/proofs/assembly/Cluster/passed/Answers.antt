@@ -3,15 +3,12 @@ use borrow.Author.Rules.{rules}
 use Rattle.sets.specs.Ring.{bits, room}
 use Rattle.sets.proofs.Machine.{ring-lt}
 use Rattle.sets.proofs.Upward.{Turn, turn_of, turns_done}
-use Rattle.basis.proofs.Grouping.{passing_none, passing_turn, passing_all}
+use Rattle.basis.proofs.Grouping.{passing_turn, passing_all}
 use Rattle.basis.proofs.assembly.Cluster.passed.Goals as goal
 use Rattle.basis.proofs.assembly.Cluster.passed.Goals.{In-Some}
 
 turn : (c : In-Some) → Turn room (bits c.args.self.left) c.loop-i.yielded c.in-Some.i
 turn c = turn_of _ _ _ _ _ _ c.into_iter-i-iterator.ensures.into_iter_gives c.loop-i.yielded_by c.next.ensures.steps c.in-Some.is
-
-pub loop-i-init : goal.loop-i-init
-loop-i-init c = passing_none _ _
 
 pub at-requires : goal.at-requires
 at-requires c = c.requires c.in-Some.i (turn (goal.at.at-requires c).In-Some).member
