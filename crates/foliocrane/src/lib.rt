@@ -1,5 +1,5 @@
 // The library's face: every entry in one place, for Rattle programs; `foliocrane_c` exports them for C and Rust. Each takes any table, an atom
-// count and two bytes a bond, and has the contract of the entry that it calls: number, count and every element of what is lent, for every
+// count and two bytes a bond, and tells as numbers what the entry tells that it calls: number, count and every element of what is lent, for every
 // input, and what is only read is as it was. What is demanded of a call stands in specs/, and proofs/ has it of these contracts.
 #![tactic(auto)]
 

@@ -1,4 +1,4 @@
-// A label's values and its bytes. No table is known here.
+// The bytes of a label, from its values. No table is known here.
 #![tactic(auto)]
 
 mod histogram;

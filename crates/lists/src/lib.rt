@@ -1,5 +1,5 @@
-// All rings of a table and its smallest basis, listed. They are worked out in the shortest lists that have room, each length in a function
-// of its own, so that a table with few sums takes little stack.
+// All rings of a table and its smallest basis, listed. They are worked out in the shortest lists that have room, each length in an
+// instance of its own, so that a table with few sums takes little stack.
 #![tactic(auto)]
 
 mod listing;
@@ -19,8 +19,8 @@ ghost use Rattle.lists.specs.Listed.{rings_found, Listable, Workable};
 
 use answers::Refusal;
 use listing::list_rings;
-use perception::{FEW, MANY, Perceived, perceive};
-use room::{FEW_WORDS, MANY_WORDS, MOST_WORDS};
+use perception::{FEW, FEW_WORDS, MANY, MANY_WORDS, Perceived, perceive};
+use room::MOST_WORDS;
 use sets::WORDS;
 use wanted::{AllRings, SmallestBasis, Wanted};
 

@@ -11,6 +11,7 @@ use answers::{BASIS_WORDS, Refusal, write_sets};
 use choosing::smallest_of;
 use sets::list::sets_in;
 
+// What can be chosen of rings in order, and written.
 pub(crate) trait Wanted {
     // which rings, in order, it can be chosen from
     ghost can_choose: { Self → List ℕ → Type 0 };

@@ -7,7 +7,7 @@ ghost use Rattle.perception.specs.Perceiving.{Perceives};
 
 use answers::{MAX_ASSEMBLY, Refusal};
 use basis::{Assemblies, Basis};
-use sets::WordSet;
+use sets::{WORDS, WordSet};
 
 // How many sets such a list holds. It is cleared before it is used, so the shortest is taken that has room. This one is for tables with
 // fewer sums than that, as drug-like ones have.
@@ -15,6 +15,11 @@ pub const FEW: usize = 32;
 
 // This one is for one assembly of as many basis rings as it may have, and for tables with fewer sums than that.
 pub const MANY: usize = 1024;
+
+// The two lengths in words.
+pub const FEW_WORDS: usize = FEW * WORDS;
+
+pub const MANY_WORDS: usize = MANY * WORDS;
 
 // The basis rings and the assemblies of a table, and how many sums these have that are not empty: there are no more rings than that.
 #[derive(Clone, Copy)]

@@ -6,5 +6,5 @@ mod record;
 mod text;
 
 pub use input::read_input;
-pub use record::{Record, first_record};
+pub use record::{RECORD_HEAD, Record, atoms_of, first_record, record_bytes};
 pub use text::{put_decimal, put_hex, put_spaced};

@@ -1,6 +1,6 @@
 // Records: field 10 (hex) with the atom count in one byte, then field 11 (hex) with the bond bytes. The length of a field
 // stands in two bytes after its tag, high byte first.
-ghost use Rattle.std.specs.Prelude.{◌≡◌, is_some, IfSome, get_or, take, drop};
+ghost use Rattle.std.specs.Prelude.{◌≡◌, ◌≤◌, is_some, IfSome, get_or, length, take, drop};
 ghost use Rattle.definitions.specs.Records as spec;
 
 // The tag of the field with the atom count.
@@ -8,6 +8,25 @@ const ATOMS_TAG: u8 = 0x10;
 
 // The tag of the field with the bond bytes.
 const BONDS_TAG: u8 = 0x11;
+
+// The bytes of a record before those of its bonds.
+pub const RECORD_HEAD: usize = 7;
+
+// The atom count of the record that a list starts with.
+pub fn atoms_of(bytes: &[u8]) -> u8
+    requires { spec.head_bytes ≤ length bytes.now }
+    ensures { result ≡ get_or bytes.now 3 0 }
+{
+    bytes[3]
+}
+
+// How many bytes the record has that a list starts with.
+pub fn record_bytes(bytes: &[u8]) -> usize
+    requires { spec.head_bytes ≤ length bytes.now }
+    ensures { result ≡ spec.record_bytes bytes.now }
+{
+    RECORD_HEAD + u16::from_be_bytes([bytes[5], bytes[6]]) as usize
+}
 
 // A record: the atom count, the bond bytes, and what comes after the record.
 #[derive(Clone, Copy)]

@@ -10,13 +10,8 @@ use answers::{BASIS_WORDS, SIZES};
 use choosing::smallest_of;
 use combining::add_assembly;
 use ordering::{count_sizes, order_rings};
-use perception::{FEW, MANY};
+use perception::{FEW, FEW_WORDS, MANY_WORDS};
 use sets::{BondSet, WORDS, WordSet};
-
-// The lengths of the lists in words.
-const FEW_WORDS: usize = FEW * WORDS;
-
-const MANY_WORDS: usize = MANY * WORDS;
 
 // How many of all rings and how many of the smallest basis have each size, and what is above all sizes that are counted.
 #[derive(Clone, Copy)]
