@@ -9,7 +9,8 @@ use Rattle.definitions.specs.Assembly.{assemblies_of, assembly_count}
 use Rattle.answers.specs.Told.{code_of}
 use Rattle.answers.specs.declared.refusal.Refusal.{Refusal}
 use Rattle.basis.specs.declared.basis.Basis.{Basis}
-use Rattle.basis.specs.declared.assembly.Assemblies.{Assemblies}
+use Rattle.sets.specs.declared.ring.RingSet.{RingSet}
+use Rattle.arrayvec.specs.ArrayVec.{ArrayVec, array_vec_len}
 
 -- the sets that a Basis holds, in order
 abbrev pub rings_of : Basis → List ℕ
@@ -27,13 +28,16 @@ pub record BasisOf (M : Table) (r : Result Basis Refusal) : Type 0 where
   pub number : code_of r ≡ refusal M
   pub rings : IfOk r (Holds M)
 
--- the sets of basis rings, one an assembly
-abbrev pub members_of : Assemblies → List ℕ
-members_of s = map bits s.members
+-- the assemblies in order, each as the set of its basis rings
+abbrev pub Assemblies : Type 0
+Assemblies = ArrayVec RingSet
 
--- s holds the assemblies of a list of basis rings, and empty sets after them
+-- these sets as numbers
+abbrev pub members_of : Assemblies → List ℕ
+members_of s = map bits s.items
+
+-- s holds the assemblies of a list of basis rings
 pub record AssembliesOf (rs : List ℕ) (s : Assemblies) : Type 0 where
-  pub count : s.count ≡ assembly_count rs
-  pub counted : s.count ≤ max_bonds
-  pub members : (a : ℕ) → a < s.count → get_or (members_of s) a 0 ≡ set_of (length rs) (λ i. eqb (get_or (assemblies_of rs) i 0) a)
-  pub blank : (a : ℕ) → s.count ≤ a → get_or (members_of s) a 0 ≡ 0
+  pub count : array_vec_len s ≡ assembly_count rs
+  pub counted : array_vec_len s ≤ max_bonds
+  pub members : (a : ℕ) → a < array_vec_len s → get_or (members_of s) a 0 ≡ set_of (length rs) (λ i. eqb (get_or (assemblies_of rs) i 0) a)

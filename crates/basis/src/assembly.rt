@@ -5,22 +5,18 @@ ghost use Rattle.sets.specs.Bits.{has};
 ghost use Rattle.sets.specs.Bond.{bits as bond_bits};
 ghost use Rattle.sets.specs.Ring.{bits as ring_bits};
 ghost use Rattle.sets.specs.Lists.{sets_in};
-ghost use Rattle.definitions.specs.Table.{max_bonds};
 ghost use Rattle.definitions.specs.Assembly.{assemblies_of};
 ghost use Rattle.definitions.specs.Answer.{over};
 ghost use Rattle.basis.specs.Held.{members_of, AssembliesOf};
 ghost use Rattle.basis.specs.Clusters.{group_of, joined_by, Grouped, Apart, Pass, Numbered};
 
 use answers::{BASIS_WORDS, MAX_BONDS};
+use arrayvec::ArrayVec;
 use sets::list::{sets_in, sets_up_to};
 use sets::{BondSet, RingSet, WORDS, WordSet};
 
-// The assemblies in order, each as the set of its basis rings: the first count sets.
-#[derive(Clone, Copy)]
-pub struct Assemblies {
-    pub members: [RingSet; MAX_BONDS],
-    pub count: usize,
-}
+// The assemblies in order, each as the set of its basis rings.
+pub type Assemblies = ArrayVec<RingSet, MAX_BONDS>;
 
 // An assembly that grows: its basis rings, their bonds, and the rings that are left.
 #[derive(Clone, Copy)]
@@ -92,16 +88,11 @@ pub fn assemblies_of(rings: &[u64; BASIS_WORDS], count: usize) -> Assemblies
     ensures { AssembliesOf (take count (sets_in rings.now)) result }
 {
     let known = first_sets(rings, count);
-    let mut found = Assemblies {
-        members: [RingSet::EMPTY; MAX_BONDS],
-        count: 0,
-    };
+    let mut found = Assemblies::new();
     let mut left = RingSet::below(sets_in(known));
     while let Some(first) = left.into_iter().next() {
         let cluster = cluster_of(known, first, left);
-        let a = found.count;
-        found.members[a] = cluster.members;
-        found.count = a + 1;
+        found.push(cluster.members);
         left = cluster.left;
     }
     found
@@ -118,11 +109,11 @@ fn number_members(members: RingSet, a: u8, out: &mut [u8])
 }
 
 // Writes the assembly of each basis ring over the start of a list.
-pub(crate) fn write_assemblies(found: Assemblies, out: &mut [u8])
-    requires { (found.count ≤ max_bonds) × ((a i : ℕ) → has (get_or (members_of found) a 0) i ≡ true → i < length out.old) }
-    ensures { (rs : List ℕ) → length rs ≤ length out.old → AssembliesOf rs found → out.new ≡ over (assemblies_of rs) out.old }
+pub(crate) fn write_assemblies(found: &Assemblies, out: &mut [u8])
+    requires { (a i : ℕ) → has (get_or (members_of found.now) a 0) i ≡ true → i < length out.old }
+    ensures { (rs : List ℕ) → length rs ≤ length out.old → AssembliesOf rs found.now → out.new ≡ over (assemblies_of rs) out.old }
 {
-    for (a, members) in found.members[..found.count].iter().enumerate() {
+    for (a, members) in found.iter().enumerate() {
         number_members(*members, a as u8, out);
     }
 }

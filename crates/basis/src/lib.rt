@@ -46,6 +46,6 @@ pub fn assemblies(atoms: u64, bonds: &[u8], out: &mut [u8]) -> Result<usize, Ref
         return Err(Refusal::Room);
     }
     let found = assemblies_of(&basis.rings, rings);
-    write_assemblies(found, out);
+    write_assemblies(&found, out);
     Ok(rings)
 }

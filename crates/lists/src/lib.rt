@@ -14,6 +14,7 @@ ghost use Rattle.definitions.specs.AllRings.{before, all_rings};
 ghost use Rattle.definitions.specs.Smallest.{smallest_basis};
 ghost use Rattle.definitions.specs.Answer.{written_sets, refusal_of_rings};
 ghost use Rattle.answers.specs.Told.{told};
+ghost use Rattle.arrayvec.specs.ArrayVec.{array_vec_len};
 ghost use Rattle.basis.specs.Held.{members_of};
 ghost use Rattle.lists.specs.Listed.{rings_found, Listable, Workable};
 
@@ -32,18 +33,23 @@ fn write_in<W: Wanted, const LONG: usize>(
     seen: &Perceived,
     out: &mut [u64],
 ) -> Result<usize, Refusal>
-    requires { (LONG < 2 ^ 60) × W.can_choose wanted (sort before (rings_found (sets_in seen.now.basis.rings) seen.now.assemblies)) × Listable (members_of seen.now.assemblies) seen.now.assemblies.count (LONG / words) }
+    requires { (LONG < 2 ^ 60) × W.can_choose wanted (sort before (rings_found (sets_in seen.now.basis.rings) seen.now.assemblies)) × Listable (members_of seen.now.assemblies) (array_vec_len seen.now.assemblies) (LONG / words) }
     ensures { told result out.new ≡ written_sets 0 (W.chosen wanted (sort before (rings_found (sets_in seen.now.basis.rings) seen.now.assemblies))) out.old }
 {
     let mut found = [0u64; LONG];
     let mut ordered = [0u64; LONG];
-    let all = list_rings(&seen.basis.rings, seen.assemblies, &mut found, &mut ordered);
+    let all = list_rings(
+        &seen.basis.rings,
+        &seen.assemblies,
+        &mut found,
+        &mut ordered,
+    );
     wanted.write(&ordered[..all * WORDS], out)
 }
 
 // Writes it, worked out in the shortest lists that have room for the sums.
 fn write_wanted<W: Wanted>(wanted: W, seen: &Perceived, out: &mut [u64]) -> Result<usize, Refusal>
-    requires { W.can_choose wanted (sort before (rings_found (sets_in seen.now.basis.rings) seen.now.assemblies)) × Workable (members_of seen.now.assemblies) seen.now.assemblies.count seen.now.sums }
+    requires { W.can_choose wanted (sort before (rings_found (sets_in seen.now.basis.rings) seen.now.assemblies)) × Workable (members_of seen.now.assemblies) (array_vec_len seen.now.assemblies) seen.now.sums }
     ensures { told result out.new ≡ written_sets 0 (W.chosen wanted (sort before (rings_found (sets_in seen.now.basis.rings) seen.now.assemblies))) out.old }
 {
     if seen.sums < FEW {

@@ -22,7 +22,7 @@ pub const FEW_WORDS: usize = FEW * WORDS;
 pub const MANY_WORDS: usize = MANY * WORDS;
 
 // The basis rings and the assemblies of a table, and how many sums these have that are not empty: there are no more rings than that.
-#[derive(Clone, Copy)]
+#[derive(Drop)]
 pub struct Perceived {
     pub basis: Basis,
     pub assemblies: Assemblies,
@@ -36,8 +36,8 @@ pub fn perceive(atoms: u64, bonds: &[u8]) -> Result<Perceived, Refusal>
     let basis = basis::basis_of(atoms, bonds)?;
     let assemblies = basis::assemblies_of(&basis.rings, basis.count);
     let mut sums: usize = 0;
-    for a in 0..assemblies.count {
-        let rings = assemblies.members[a].size();
+    for members in &assemblies {
+        let rings = members.size();
         if rings > MAX_ASSEMBLY {
             return Err(Refusal::Tangled);
         }

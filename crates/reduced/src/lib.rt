@@ -28,7 +28,7 @@ pub fn reduce(atoms: u64, bonds: &[u8]) -> Result<Reduced, Refusal>
     let basis = basis::basis_of(atoms, bonds)?;
     let assemblies = basis::assemblies_of(&basis.rings, basis.count);
     let mut sets = [0u64; BASIS_WORDS];
-    reduce_all(&basis.rings, assemblies, &mut sets);
+    reduce_all(&basis.rings, &assemblies, &mut sets);
     Ok(Reduced {
         sets,
         count: basis.count,

@@ -9,7 +9,7 @@ use super::rising::Rising;
 use super::word;
 use super::word_set::WordSet;
 
-#[derive(Clone, Copy)]
+#[derive(Clone, Copy, Default)]
 pub struct RingSet(pub u64);
 
 impl RingSet {

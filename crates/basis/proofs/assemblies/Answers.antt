@@ -13,8 +13,7 @@ pub returns-then-out-rings-clause-answer : goal.returns-then-out-rings-clause-an
 returns-then-out-rings-clause-answer c = let basis = c.in_ok-basis.ensures in is_short _ _ basis.number (assemblies-counted basis.rings) (omega arith)
 
 pub write_assemblies-requires : goal.write_assemblies-requires
-write_assemblies-requires c = let parts = c.assemblies_of-found.ensures in
-    (parts.counted, assemblies_places c.in_ok-basis.ensures.rings parts c.args.out.now (omega arith))
+write_assemblies-requires c = assemblies_places c.in_ok-basis.ensures.rings c.assemblies_of-found.ensures c.args.out.now (omega arith)
 
 pub returns-clause-answer : goal.returns-clause-answer
 returns-clause-answer c =

@@ -21,32 +21,26 @@ turn : (c : In-Some) → Turn room (bits c.loop-first.left) [] c.in-Some.first
 turn c = turn_of _ _ _ _ _ [] c.into_iter.ensures.into_iter_gives refl c.next.ensures.steps c.in-Some.is
 
 -- its assembly has a place
-place : (c : In-Some) → c.loop-first.found.count < room
+place : (c : In-Some) → length c.loop-first.found.items < room
 place c = divided_room c.loop-first.invariant (turn c)
 
 pub loop-first-init : goal.loop-first-init
 loop-first-init c = let whole = sets-whole max_bonds c.args.rings.now (search rules) in
     let few : length (sets_in c.first_sets-known.result.now) ≤ room = rw c.first_sets-known.ensures (omega (arith, length-take c.args.count (sets_in c.args.rings.now), whole)) in
-    divided_none _ few refl (rw c.sets_in.ensures at c.below-left.ensures)
+    rw c.new-found.ensures (divided_none _ few (rw c.sets_in.ensures at c.below-left.ensures))
 
 pub cluster_of-cluster-requires-clause-first : goal.cluster_of-cluster-requires-clause-first
 cluster_of-cluster-requires-clause-first c = (turn (goal.at.cluster_of-cluster-requires-clause-first c).In-Some).member
 
-pub offset_bounds-found-a : goal.offset_bounds-found-a
-offset_bounds-found-a c = omega (arith, place (goal.at.offset_bounds-found-a c).In-Some)
-
-pub bounds-found-a : goal.bounds-found-a
-bounds-found-a c = omega (arith, place (goal.at.bounds-found-a c).In-Some)
-
-pub overflow_add-found : goal.overflow_add-found
-overflow_add-found c = omega (arith, place (goal.at.overflow_add-found c).In-Some)
+pub push-requires : goal.push-requires
+push-requires c = (omega arith, place (goal.at.push-requires c).In-Some)
 
 pub loop-first-smaller : goal.loop-first-smaller
 loop-first-smaller c = omega (arith, place (goal.at.loop-first-smaller c).In-Some)
 
 pub loop-first-preserved : goal.loop-first-preserved
 loop-first-preserved c = let found = c.cluster_of-cluster.ensures in
-    divided_more c.loop-first.invariant (turn (goal.at.loop-first-preserved c).In-Some) found.grouped found.apart refl
+    rw c.push.ensures.items (divided_more c.loop-first.invariant (turn (goal.at.loop-first-preserved c).In-Some) found.grouped found.apart refl)
 
 pub returns : goal.returns
 returns c = rw c.first_sets-known.ensures at (divided_all c.loop-first.invariant (turns_done _ _ _ _ _ [] c.into_iter.ensures.into_iter_gives refl c.next.ensures.steps c.in_default.is))
