@@ -57,23 +57,23 @@ foliocrane_answer foliocrane_basis_rings(uint64_t atoms, const uint8_t *bonds, s
 foliocrane_answer foliocrane_assemblies(uint64_t atoms, const uint8_t *bonds, size_t bonds_len, uint8_t *out, size_t out_len);
 
 /* All rings, the smaller first, and of one size the lower word. At most 6,547 words. Stack: 6,984 bytes with few sums, at most
-   109,744. */
+   108,744. */
 foliocrane_answer foliocrane_all_rings(uint64_t atoms, const uint8_t *bonds, size_t bonds_len, uint64_t *out, size_t out_len);
 
 /* The smallest basis, as taken from all rings in their order. At most 64 words. Stack: 6,984 bytes with few sums, at most
-   110,784. */
+   109,768. */
 foliocrane_answer foliocrane_smallest_basis(uint64_t atoms, const uint8_t *bonds, size_t bonds_len, uint64_t *out, size_t out_len);
 
 /* The reduced basis of 1975: it depends on the numbering, and may have sets that are no rings. At most 64 words. Stack:
-   5,976 bytes. */
+   6,504 bytes. */
 foliocrane_answer foliocrane_reduced_basis(uint64_t atoms, const uint8_t *bonds, size_t bonds_len, uint64_t *out, size_t out_len);
 
 /* The label: it depends on the molecule and not on the numbering. Its field 01 is bonds - atoms + fragments, an atom without bonds being a
    fragment too: the number of basis rings. Earlier versions wrote bonds - atoms + 1 there, or 0 where that is negative, so that their labels
-   differ in it for tables of several fragments that have a ring. At most 512 bytes. Stack: 9,576 bytes with few sums, at most 23,440. */
+   differ in it for tables of several fragments that have a ring. At most 512 bytes. Stack: 9,576 bytes with few sums, at most 23,464. */
 foliocrane_answer foliocrane_label(uint64_t atoms, const uint8_t *bonds, size_t bonds_len, uint8_t *out, size_t out_len);
 
-/* The sidecar: the reduced basis in a field of its own. At most 515 bytes. Stack: 5,976 bytes. */
+/* The sidecar: the reduced basis in a field of its own. At most 515 bytes. Stack: 6,504 bytes. */
 foliocrane_answer foliocrane_sidecar(uint64_t atoms, const uint8_t *bonds, size_t bonds_len, uint8_t *out, size_t out_len);
 
 /* The ring that is a set of bonds, in walking order: from the lower atom of its lowest bond over that bond, and from each atom by the other
