@@ -47,38 +47,38 @@ enum {
     FOLIOCRANE_ROOM = 8     /* the answer has more items than a lent list */
 };
 
-/* Is the table accepted, and how many basis rings has it? Stack: 3,704 bytes. */
+/* Is the table accepted, and how many basis rings has it? Stack: 2,680 bytes. */
 foliocrane_answer foliocrane_check(uint64_t atoms, const uint8_t *bonds, size_t bonds_len);
 
-/* The basis rings, in order of their closure bonds. At most 64 words. Stack: 4,248 bytes. */
+/* The basis rings, in order of their closure bonds. At most 64 words. Stack: 3,224 bytes. */
 foliocrane_answer foliocrane_basis_rings(uint64_t atoms, const uint8_t *bonds, size_t bonds_len, uint64_t *out, size_t out_len);
 
-/* The assembly of each basis ring. At most 64 bytes. Stack: 4,760 bytes. */
+/* The assembly of each basis ring. At most 64 bytes. Stack: 3,736 bytes. */
 foliocrane_answer foliocrane_assemblies(uint64_t atoms, const uint8_t *bonds, size_t bonds_len, uint8_t *out, size_t out_len);
 
-/* All rings, the smaller first, and of one size the lower word. At most 6,547 words. Stack: 7,064 bytes with few sums, at most
-   112,424. */
+/* All rings, the smaller first, and of one size the lower word. At most 6,547 words. Stack: 6,984 bytes with few sums, at most
+   108,744. */
 foliocrane_answer foliocrane_all_rings(uint64_t atoms, const uint8_t *bonds, size_t bonds_len, uint64_t *out, size_t out_len);
 
-/* The smallest basis, as taken from all rings in their order. At most 64 words. Stack: 8,120 bytes with few sums, at most
-   113,480. */
+/* The smallest basis, as taken from all rings in their order. At most 64 words. Stack: 6,984 bytes with few sums, at most
+   109,768. */
 foliocrane_answer foliocrane_smallest_basis(uint64_t atoms, const uint8_t *bonds, size_t bonds_len, uint64_t *out, size_t out_len);
 
 /* The reduced basis of 1975: it depends on the numbering, and may have sets that are no rings. At most 64 words. Stack:
-   6,968 bytes. */
+   6,504 bytes. */
 foliocrane_answer foliocrane_reduced_basis(uint64_t atoms, const uint8_t *bonds, size_t bonds_len, uint64_t *out, size_t out_len);
 
 /* The label: it depends on the molecule and not on the numbering. Its field 01 is bonds - atoms + fragments, an atom without bonds being a
    fragment too: the number of basis rings. Earlier versions wrote bonds - atoms + 1 there, or 0 where that is negative, so that their labels
-   differ in it for tables of several fragments that have a ring. At most 512 bytes. Stack: 9,016 bytes with few sums, at most 25,560. */
+   differ in it for tables of several fragments that have a ring. At most 512 bytes. Stack: 9,576 bytes with few sums, at most 23,464. */
 foliocrane_answer foliocrane_label(uint64_t atoms, const uint8_t *bonds, size_t bonds_len, uint8_t *out, size_t out_len);
 
-/* The sidecar: the reduced basis in a field of its own. At most 515 bytes. Stack: 6,456 bytes. */
+/* The sidecar: the reduced basis in a field of its own. At most 515 bytes. Stack: 6,504 bytes. */
 foliocrane_answer foliocrane_sidecar(uint64_t atoms, const uint8_t *bonds, size_t bonds_len, uint8_t *out, size_t out_len);
 
 /* The ring that is a set of bonds, in walking order: from the lower atom of its lowest bond over that bond, and from each atom by the other
    bond of the set, until back at the start. The atom at a place is left by the bond at that place, and the last bond leads back to the
-   first atom. Both lists are written or neither. At most 64 bytes in each. Stack: 1,416 bytes round a ring of six, at most 7,912. */
+   first atom. Both lists are written or neither. At most 64 bytes in each. Stack: 2,072 bytes round a ring of six, at most 5,784. */
 foliocrane_answer foliocrane_ring_walk(uint64_t atoms, const uint8_t *bonds, size_t bonds_len, uint64_t set, uint8_t *ring_atoms,
                                        size_t ring_atoms_len, uint8_t *ring_bonds, size_t ring_bonds_len);
 

@@ -1,5 +1,5 @@
--- The ways to return an answer: each turns what a function has shown into the outcome that its contract names. r is what the check of
--- the table gave, and c what it is by the definitions.
+-- The ways to return an answer: each turns what a function has shown into the outcome that its contract names. c is what the check of the
+-- table gives by the definitions.
 --     outcome-..    of anything that is handed back or left
 --     is-..         of items over the start of a lent list
 --     sets-..       of sets as words over the start of a lent list
@@ -11,78 +11,105 @@ use mathlib.Core.List.{List, []}
 use Prim.Native.Nat.{ℕ, zero, suc, ◌<◌, ◌≤◌}
 use native.Mathlib.Omega.{arith}
 use lib.ListN.{length}
+use lib.Dec.{lit<}
 use borrow.Author.Tests.{le-leb, lt-leb}
+use Rattle.std.proofs.Common.{Result, Ok, Err}
+use Rattle.std.specs.Result.{IsErrAnd}
+use Rattle.std.proofs.lemmas.Result.{err_from_is_err_and}
 use Rattle.sets.specs.Lists.{in_words, words_of}
 use Rattle.sets.proofs.Lists.{in_words-length}
-use Rattle.definitions.specs.Table.{ROOM}
 use Rattle.definitions.specs.Answer.{Outcome, outcome_of, outcome, over, written, written_sets, counted}
+use Rattle.answers.specs.Told.{number_of, told, AnswerOf}
+use Rattle.answers.specs.declared.answer.Answer.{Answer}
+use Rattle.answers.specs.declared.refusal.Refusal.{Refusal}
+use Rattle.answers.specs.declared.refusal.Refusal.TheVariants.{Odd, Atoms, Bonds, End, SelfBond, Twice, Tangled, Room, NotRing}
+
+-- no refusal has the number 0
+pub number-some : (e : Refusal) → 0 < number_of e
+number-some Odd = lit< tt
+number-some Atoms = lit< tt
+number-some Bonds = lit< tt
+number-some End = lit< tt
+number-some SelfBond = lit< tt
+number-some Twice = lit< tt
+number-some Tangled = lit< tt
+number-some Room = lit< tt
+number-some NotRing = lit< tt
+
+-- a refusal that is passed on is told
+pub passed : {A : Type 0} (r : Result ℕ Refusal) (e : Refusal) (left : A) → IsErrAnd r (λ d. d ≡ e) → told r left ≡ told (Err e) left
+passed r e left same = let p = err_from_is_err_and r same in ap (λ (t : Result ℕ Refusal). told t left) (p.1 ∙ ap (λ (d : Refusal). Err d) p.2)
+
+-- an answer has the numbers of what is told
+pub numbered : {A : Type 0} (r : Result ℕ Refusal) (a : Answer) (left : A) {o : Outcome A} → AnswerOf r a → told r left ≡ o → outcome_of a.number a.count left ≡ o
+numbered r a left n e = ap₂ (λ (m k : ℕ). outcome_of m k left) n.0 n.1 ∙ e
 
 -- a number above 0 comes after one
 above_zero : (c : ℕ) → 0 < c → (d : ℕ) × (c ≡ suc d)
 above_zero zero h = absurd (omega arith)
 above_zero (suc d) h = (d, refl)
 
-module _ {A : Type 0} {r c : ℕ} (given : r ≡ c) (room : Bool) (n : ℕ) (new lent : A) where
+module _ {A : Type 0} {c : ℕ} (room : Bool) (n : ℕ) (new lent : A) where
   -- a refusal has count 0, and what was lent is left
-  pub outcome-refused : 0 < r → outcome_of r 0 lent ≡ outcome c room n new lent
+  pub outcome-refused : (e : Refusal) → number_of e ≡ c → told (Err e) lent ≡ outcome c room n new lent
   unfolding outcome
-  outcome-refused h = rw (given, (above_zero c (omega arith)).1)
+  outcome-refused e given = rw (given, (above_zero c (omega (arith, number-some e))).1)
 
   -- too little room is refusal 8
-  pub outcome_short : r ≤ 0 → room ≡ false → outcome_of ROOM 0 lent ≡ outcome c room n new lent
+  pub outcome_short : 0 ≡ c → room ≡ false → told (Err Room) lent ≡ outcome c room n new lent
   unfolding outcome
-  outcome_short h e = let none : c ≡ 0 = omega arith in rw (none, e)
+  outcome_short none e = rw (sym none, e)
 
   -- what is given is counted and left
-  pub outcome-given : {k : ℕ} {left : A} → r ≤ 0 → room ≡ true → k ≡ n → left ≡ new → outcome_of 0 k left ≡ outcome c room n new lent
+  pub outcome-given : {k : ℕ} {left : A} → 0 ≡ c → room ≡ true → k ≡ n → left ≡ new → told (Ok k) left ≡ outcome c room n new lent
   unfolding outcome
-  outcome-given h e q w = let none : c ≡ 0 = omega arith in rw (none, e, q, w)
+  outcome-given none e q w = rw (sym none, e, q, w)
 
-module _ (wanted lent : List ℕ) {r c : ℕ} (given : r ≡ c) where
-  pub is_refused : 0 < r → outcome_of r 0 lent ≡ written c wanted lent
+module _ (wanted lent : List ℕ) {c : ℕ} where
+  pub is_refused : (e : Refusal) → number_of e ≡ c → told (Err e) lent ≡ written c wanted lent
   unfolding written
-  is_refused h = outcome-refused given _ _ _ lent h
+  is_refused e given = outcome-refused _ _ _ lent e given
 
-  pub is_accepted : r ≤ 0 → {found : List ℕ} {o : Outcome (List ℕ)} → found ≡ wanted → o ≡ written 0 found lent → o ≡ written c wanted lent
-  is_accepted h e w = let none : 0 ≡ c = omega arith in w ∙ ap₂ (λ (d : ℕ) (l : List ℕ). written d l lent) none e
+  pub is_accepted : 0 ≡ c → {found : List ℕ} {o : Outcome (List ℕ)} → found ≡ wanted → o ≡ written 0 found lent → o ≡ written c wanted lent
+  is_accepted none e w = w ∙ ap₂ (λ (d : ℕ) (l : List ℕ). written d l lent) none e
 
-  module _ {n : ℕ} (accepted : r ≤ 0) (count : n ≡ length wanted) where
-    pub is_short : length lent < n → outcome_of ROOM 0 lent ≡ written c wanted lent
+  module _ {n : ℕ} (none : 0 ≡ c) (count : n ≡ length wanted) where
+    pub is_short : length lent < n → told (Err Room) lent ≡ written c wanted lent
     unfolding written
-    is_short h = outcome_short given _ _ _ lent accepted (lt-leb (length wanted) (length lent) (omega arith))
+    is_short h = outcome_short _ _ _ lent none (lt-leb (length wanted) (length lent) (omega arith))
 
-    pub is_full : {left : List ℕ} → n ≤ length lent → left ≡ over wanted lent → outcome_of 0 n left ≡ written c wanted lent
+    pub is_full : {left : List ℕ} → n ≤ length lent → left ≡ over wanted lent → told (Ok n) left ≡ written c wanted lent
     unfolding written
-    is_full h e = outcome-given given _ _ _ lent accepted (le-leb (length wanted) (length lent) (omega arith)) count e
+    is_full h e = outcome-given _ _ _ lent none (le-leb (length wanted) (length lent) (omega arith)) count e
 
-module _ (wanted lent : List ℕ) {r c : ℕ} (given : r ≡ c) where
-  pub sets-refused : 0 < r → outcome_of r 0 lent ≡ written_sets c wanted lent
+module _ (wanted lent : List ℕ) {c : ℕ} where
+  pub sets-refused : (e : Refusal) → number_of e ≡ c → told (Err e) lent ≡ written_sets c wanted lent
   unfolding written_sets
-  sets-refused h = outcome-refused given _ _ _ lent h
+  sets-refused e given = outcome-refused _ _ _ lent e given
 
-  pub sets-accepted : r ≤ 0 → {found : List ℕ} {o : Outcome (List ℕ)} → found ≡ wanted → o ≡ written_sets 0 found lent → o ≡ written_sets c wanted lent
-  sets-accepted h e w = let none : 0 ≡ c = omega arith in w ∙ ap₂ (λ (d : ℕ) (l : List ℕ). written_sets d l lent) none e
+  pub sets-accepted : 0 ≡ c → {found : List ℕ} {o : Outcome (List ℕ)} → found ≡ wanted → o ≡ written_sets 0 found lent → o ≡ written_sets c wanted lent
+  sets-accepted none e w = w ∙ ap₂ (λ (d : ℕ) (l : List ℕ). written_sets d l lent) none e
 
-  module _ {n : ℕ} (accepted : r ≤ 0) (count : n ≡ length wanted) where
-    pub sets_short : length lent < words_of n → outcome_of ROOM 0 lent ≡ written_sets c wanted lent
+  module _ {n : ℕ} (none : 0 ≡ c) (count : n ≡ length wanted) where
+    pub sets_short : length lent < words_of n → told (Err Room) lent ≡ written_sets c wanted lent
     unfolding written_sets
     sets_short h =
-        outcome_short given _ _ _ lent accepted
+        outcome_short _ _ _ lent none
         (lt-leb (length (in_words wanted)) (length lent) (rw (in_words-length wanted ∙ ap words_of (sym count)) h))
 
-    pub sets_full : {left : List ℕ} → words_of n ≤ length lent → left ≡ over (in_words wanted) lent → outcome_of 0 n left ≡ written_sets c wanted lent
+    pub sets_full : {left : List ℕ} → words_of n ≤ length lent → left ≡ over (in_words wanted) lent → told (Ok n) left ≡ written_sets c wanted lent
     unfolding written_sets
     sets_full h e =
-        outcome-given given _ _ _ lent accepted
+        outcome-given _ _ _ lent none
         (le-leb (length (in_words wanted)) (length lent) (rw (in_words-length wanted ∙ ap words_of (sym count)) h)) count e
 
-module _ (n : ℕ) {r c : ℕ} (given : r ≡ c) where
+module _ (n : ℕ) {c : ℕ} where
   -- a refusal of the table check has count 0
-  pub check_refused : 0 < r → outcome_of r 0 [] ≡ counted c n
+  pub check_refused : (e : Refusal) → number_of e ≡ c → told (Err e) [] ≡ counted c n
   unfolding counted
-  check_refused h = outcome-refused given _ _ _ _ h
+  check_refused e given = outcome-refused _ _ _ _ e given
 
   -- an accepted table's count is what is counted
-  pub check_counted : {k : ℕ} → r ≤ 0 → k ≡ n → outcome_of 0 k [] ≡ counted c n
+  pub check_counted : {k : ℕ} → 0 ≡ c → k ≡ n → told (Ok k) [] ≡ counted c n
   unfolding counted
-  check_counted h e = outcome-given given _ _ _ _ h refl e refl
+  check_counted none e = outcome-given _ _ _ _ none refl e refl

@@ -3,26 +3,30 @@
 -- bond with a member is of the same assembly, so it was looked at, and is not left. Assumes nothing.
 use mathlib.Core.Path.{◌≡◌, refl, sym, ap, ◌∙◌}
 use mathlib.Core.Logic.{⊎_elim}
-use mathlib.Core.Bool.{Bool, true, false, ◌&&◌, ◌||◌, not, cond, and-false, or-true, true≢false}
-use mathlib.Core.List.{List}
-use Prim.Native.Nat.{ℕ, ◌+◌, ◌≤◌, ◌<◌}
+use mathlib.Core.Bool.{Bool, true, false, ◌&&◌, ◌||◌, not, cond, and-false, or-true}
+use mathlib.Core.List.Memᴰ
+use mathlib.Core.List.{List, [], ◌∷◌, ◌++◌, Memᴰ as In}
+use Prim.Native.Nat.{ℕ, ◌^◌, ◌<◌}
 use native.Mathlib.Omega.{arith}
-use borrow.Author.Tests.{eqb-true, eqb-false, eq-eqb, ltb-true, ltb-false}
+use borrow.Author.Tests.{eqb-true, eq-eqb, ne_eqb}
 use lib.Bits.{bit_or}
-use lib.Dec.{eqb, ltb}
+use lib.Dec.{eqb}
 use lib.ListN.{length, get_or}
-use Rattle.sets.specs.Bits.{has, Sub, meet, put, without, IsNext, size}
+use Rattle.sets.specs.Bits.{has, Sub, meet, put, without, size}
 use Rattle.sets.specs.Ring.{room}
-use Rattle.sets.proofs.Laws.{has-or, has-zero, has-with, has-without}
+use Rattle.sets.specs.Rising.{rising}
+use Rattle.sets.proofs.Laws.{has-or, has-zero, has-with, has-without, member_below}
 use Rattle.sets.proofs.Size.{size-sub, sub_same}
 use Rattle.sets.proofs.Members.{common, meet_of}
 use Rattle.sets.proofs.Machine.{put_below}
+use Rattle.sets.proofs.Upward.{Turn}
 use Rattle.definitions.specs.Assembly.{Linked}
 use Rattle.definitions.specs.Assembly.Linked.{same, by as shares}
-use Rattle.definitions.proofs.Tests.{by, clashes, eqb_self, and_both, same_test, or-one}
+use Rattle.definitions.proofs.Tests.{by, clashes, eqb_self, and_both, both_and, same_test, or-one}
+use Rattle.definitions.proofs.Lists.{in_snoc, in_last}
 use Rattle.definitions.proofs.Linking.{linked_trans}
-use Rattle.definitions.proofs.Passing.{Passed, passed_next}
 use Rattle.basis.specs.Clusters.{Group, joined_by, Grouped, Apart, Pass}
+use Rattle.basis.proofs.Taken.{in_rising, turn_new}
 use Rattle.basis.proofs.Putting.{put_new, put_old, put_from}
 
 -- a ring that is left is one of those looked at, and no member
@@ -106,83 +110,63 @@ grouped_join {rs} {first} {all} {g} q i l h e = record {
 
 -- ---- a pass over the rings left
 
--- g is the group before the pass and h the group now; the rings below i were looked at, and i is the next ring left
-pub record Passing (rs : List ℕ) (g h : Group) (i : ℕ) : Type 0 where
-  pub next : Passed room h.left i
+-- g is the group before the pass and h the group now; of the rings that were left, those at the places taken so far were looked at
+pub record Passing (rs : List ℕ) (g h : Group) (xs : List ℕ) : Type 0 where
   pub kept : (first all : ℕ) → Grouped rs first all g → Grouped rs first all h
   pub fewer : Sub h.left g.left
-  pub seen : h.left ≡ g.left → (j : ℕ) → j < i → has h.left j ≡ true → meet (get_or rs j 0) h.bonds ≡ false
+  pub still : (j : ℕ) → has g.left j ≡ true → (In j xs → ⊥) → has h.left j ≡ true
+  pub seen : h.left ≡ g.left → (j : ℕ) → In j xs → has h.left j ≡ true → meet (get_or rs j 0) h.bonds ≡ false
 
-pub passing_none : (rs : List ℕ) (g : Group) {i : ℕ} → IsNext room g.left 0 i → Passing rs g g i
-passing_none rs g n = record {
-  next = passed_next n;
-  kept = λ first all q. q;
-  fewer = λ j e. e;
-  seen = λ z j l e. clashes e (n.none j (omega arith) l);
-}
+module _ {rs : List ℕ} {g h : Group} {xs : List ℕ} {i : ℕ} (p : Passing rs g h xs) (turn : Turn room g.left xs i) where
+  -- ring i is still left
+  here_left : has h.left i ≡ true
+  here_left = p.still i turn.member (turn_new turn)
 
-module _ {rs : List ℕ} {g h : Group} {i : ℕ} (p : Passing rs g h i) (l : i < room) where
   -- ring i joins: the rings left are not those before the pass
-  passing_joins : {q : ℕ} → meet (get_or rs i 0) h.bonds ≡ true → IsNext room (without h.left i) (i + 1) q
-      → Passing rs g (record { members = put room h.members i; bonds = bit_or h.bonds (get_or rs i 0); left = without h.left i }) q
-  passing_joins {q} e n = record {
-    next = passed_next n;
-    kept = λ first all o. grouped_join (p.kept first all o) i l (p.next.member l) e;
+  passing_joins : meet (get_or rs i 0) h.bonds ≡ true
+      → Passing rs g (record { members = put room h.members i; bonds = bit_or h.bonds (get_or rs i 0); left = without h.left i }) (xs ++ (i ∷ []))
+  passing_joins e = record {
+    kept = λ first all o. grouped_join (p.kept first all o) i turn.below here_left e;
     fewer = λ j t. p.fewer j (without_old h.left i j t);
-    seen = λ z. clashes (p.fewer i (p.next.member l)) (ap (λ (s : ℕ). has s i) (sym z) ∙ gone);
+    still = λ j t n. has-without h.left i j ∙ both_and (p.still j t (λ m. n (Memᴰ.append_left (i ∷ []) m))) (ap not (ne_eqb i j (λ is. n (rw (← is) (in_last xs i)))));
+    seen = λ z. clashes turn.member (ap (λ (s : ℕ). has s i) (sym z) ∙ gone);
   }
     where
       gone : has (without h.left i) i ≡ false
       gone = has-without h.left i i ∙ ap (λ (b : Bool). has h.left i && not b) (eqb_self i) ∙ and-false (has h.left i)
 
   -- ring i does not join
-  passing_stays : {q : ℕ} → meet (get_or rs i 0) h.bonds ≡ false → IsNext room h.left (i + 1) q → Passing rs g h q
-  passing_stays {q} e n = record {
-    next = passed_next n;
+  passing_stays : meet (get_or rs i 0) h.bonds ≡ false → Passing rs g h (xs ++ (i ∷ []))
+  passing_stays e = record {
     kept = p.kept;
     fewer = p.fewer;
-    seen = λ z j m t.
-        by (ltb j i) (λ b. p.seen z j (ltb-true j i b) t)
-        (λ b. by (eqb j i) (λ c. rw (eqb-true j i c) e) (λ c. clashes t (n.none j (omega (arith, ltb-false j i b, eqb-false j i c)) m)));
+    still = λ j t n. p.still j t (λ m. n (Memᴰ.append_left (i ∷ []) m));
+    seen = λ z j m t. ⊎_elim (λ o. p.seen z j o t) (λ is. rw is e) (in_snoc xs m);
   }
 
-  pub passing_turn : {h' : Group} {s q : ℕ} → s ≡ get_or rs i 0 → h' ≡ joined_by h i s → IsNext room h'.left (i + 1) q → Passing rs g h' q
-  passing_turn {h'} {s} {q} es eh n =
-      by (meet (get_or rs i 0) h.bonds)
-      (λ e. let z = to e in rw z (passing_joins e (rw z at n)))
-      (λ e. let z = to e in rw z (passing_stays e (rw z at n)))
+  pub passing_turn : {h' : Group} {s : ℕ} → s ≡ get_or rs i 0 → h' ≡ joined_by h i s → Passing rs g h' (xs ++ (i ∷ []))
+  passing_turn {h'} {s} es eh =
+      by (meet (get_or rs i 0) h.bonds) (λ e. rw (to e) (passing_joins e)) (λ e. rw (to e) (passing_stays e))
     where
       to : {b : Bool} → meet (get_or rs i 0) h.bonds ≡ b
           → h' ≡ cond b (record { members = put room h.members i; bonds = bit_or h.bonds (get_or rs i 0); left = without h.left i }) h
       to e = eh ∙ rw (es, e)
 
--- all rings left were looked at
-pub passing_all : {rs : List ℕ} {g h : Group} {i n : ℕ} → ((j : ℕ) → has g.left j ≡ true → j < n) → n ≤ i → Passing rs g h i → Pass rs g h
-passing_all below l p = record { kept = p.kept; fewer = p.fewer; done = λ z j e. p.seen z j (omega (arith, below j (p.fewer j e))) e }
+-- all rings that were left were looked at
+pub passing_all : {rs : List ℕ} {g h : Group} {xs : List ℕ} → g.left < 2 ^ room → xs ≡ rising room g.left → Passing rs g h xs → Pass rs g h
+passing_all {g = g} b done p = record {
+  kept = p.kept;
+  fewer = p.fewer;
+  done = λ z j e. let o = p.fewer j e in p.seen z j (rw done ((in_rising room g.left j).1 (member_below room j b o, o))) e;
+}
 
 -- ---- passes until one adds nothing
 
--- g is the group of the first ring alone and h the group now; where the last pass did not grow it the rings left are apart
-pub record Collecting (rs : List ℕ) (first : ℕ) (g h : Group) (grew : Bool) : Type 0 where
-  pub kept : (all : ℕ) → Grouped rs first all g → Grouped rs first all h
-  pub fewer : Sub h.left g.left
-  pub apart : grew ≡ false → Apart rs h
+module _ {rs : List ℕ} {g h : Group} (p : Pass rs g h) where
+  -- a pass that leaves as many rings has left all as they were
+  pub pass_apart : size h.left ≡ size g.left → Apart rs h
+  pass_apart e = p.done (sub_same h.left g.left p.fewer (omega arith))
 
-pub collecting_none : (rs : List ℕ) (first : ℕ) (g : Group) → Collecting rs first g g true
-collecting_none rs first g = record { kept = λ all q. q; fewer = λ j e. e; apart = λ e. absurd (true≢false e) }
-
--- a pass that leaves as many rings has left all as they were
-pub collecting_more : {rs : List ℕ} {first : ℕ} {g h h' : Group} {grew : Bool} {m n : ℕ} → Collecting rs first g h grew → Pass rs h h'
-    → n ≡ size h.left → m ≡ size h'.left → Collecting rs first g h' (ltb m n)
-collecting_more {h = h} {h' = h'} {m = m} {n = n} c p en em = record {
-  kept = λ all q. p.kept _ all (c.kept all q);
-  fewer = λ j e. c.fewer j (p.fewer j e);
-  apart = λ e. p.done (sub_same h'.left h.left p.fewer (omega (arith, size-sub h'.left h.left p.fewer, ltb-false m n e)));
-}
-
--- what is left to do falls: the rings left, and one pass more where the last grew the group
-pub collecting_less : {rs : List ℕ} {h h' : Group} {grew : Bool} {m n : ℕ} → grew ≡ true → Pass rs h h' → n ≡ size h.left → m ≡ size h'.left
-    → size h'.left + cond (ltb m n) 1 0 < size h.left + cond grew 1 0
-collecting_less {h = h} {h' = h'} {m = m} {n = n} t p en em =
-    let low = size-sub h'.left h.left p.fewer in
-    rw t (by (ltb m n) (λ e. rw e (omega (arith, ltb-true m n e))) (λ e. rw e (omega arith)))
+  -- any other leaves fewer
+  pub pass_falls : (size h.left ≡ size g.left → ⊥) → size h.left < size g.left
+  pass_falls ne = omega (arith, size-sub h.left g.left p.fewer)

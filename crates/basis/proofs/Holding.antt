@@ -1,33 +1,36 @@
 -- What is known of the rings of a Basis and of their assemblies, and of the sets of Assemblies. Assumes nothing.
 use mathlib.Core.Path.{◌≡◌, refl, sym, ap, ◌∙◌}
 use mathlib.Core.Bool.{Bool, true, ◌&&◌}
-use mathlib.Core.List.{List, [], map}
-use Prim.Native.Nat.{ℕ, ◌*◌, ◌≤◌, ◌<◌}
+use mathlib.Core.List.{List, ◌∷◌, map}
+use Prim.Native.Nat.{ℕ, ◌+◌, ◌≤◌, ◌<◌}
 use native.Mathlib.Omega.{arith}
-use borrow.Author.Tests.{lt-ltb, le-ltb, ltb-true, ltb-false, eqb-true, eqb-false}
+use borrow.Author.Tests.{lt-ltb, le-ltb, ltb-true, ltb-false}
 use lib.Dec.{eqb, ltb}
-use lib.ListN.{length, get_or, replicate}
-use lib.Seq.{get_or-take}
+use lib.ListN.{length, get_or, drop}
+use Rattle.std.proofs.lemmas.List.{get_or-drop, length-drop, drop-drop}
+use lib.Seq.{get_or-take, ext_get_or}
+use Rattle.std.proofs.lemmas.List.{get_or_past}
+use lib.ListN.{length-map}
 use Rattle.sets.specs.Bits.{has, size}
 use Rattle.sets.specs.Ring.{bits, no_rings, room}
 use Rattle.sets.specs.declared.ring.RingSet.{RingSet}
-use Rattle.sets.specs.Lists.{sets_in, words}
-use Rattle.sets.proofs.Lists.{sets-blank}
+use Rattle.sets.specs.Lists.{sets_in}
 use Rattle.sets.proofs.Machine.{no_rings_lem}
 use Rattle.sets.proofs.Laws.{has-zero}
 use Rattle.definitions.specs.Search.{picked, gather}
-use Rattle.definitions.specs.Table.{Table, refusal, max_bonds}
+use Rattle.definitions.specs.Table.{Table}
 use Rattle.definitions.specs.Basis.{basis_rings}
 use Rattle.definitions.specs.Assembly.{assemblies, assembly_count, rings_in}
-use Rattle.definitions.specs.Answer.{outcome_of, counted}
 use Rattle.definitions.proofs.Tests.{by, clashes, and_both}
-use Rattle.definitions.proofs.Lists.{has-set_of, size-set_of, listed_ext, gather_ext, get_or-map, get_or-same}
+use Rattle.definitions.proofs.Lists.{has-set_of, size-set_of, listed_ext, gather_ext, get_or-map}
 use Rattle.definitions.proofs.Passing.{listed_gap}
 use Rattle.definitions.proofs.Linking.{number, length-assemblies, length-rings_in}
-use Rattle.answers.proofs.Answers.{check_refused, check_counted}
-use Rattle.basis.specs.Held.{rings_of, Holds, BasisOf, members_of, AssembliesOf}
+use Rattle.std.proofs.Common.{Result, Ok, Err, IfOk}
+use Rattle.answers.specs.Told.{code_of}
+use Rattle.answers.specs.declared.refusal.Refusal.{Refusal}
+use Rattle.basis.specs.Held.{rings_of, Holds, BasisOf, Assemblies, members_of, AssembliesOf}
 use Rattle.basis.specs.declared.basis.Basis.{Basis}
-use Rattle.basis.specs.declared.assembly.Assemblies.{Assemblies}
+use Rattle.arrayvec.specs.ArrayVec.{array_vec_len}
 
 -- ---- a Basis
 
@@ -45,32 +48,6 @@ module _ {M : Table} {b : Basis} (h : Holds M b) where
   unfolding assemblies
   assemblies-counted = h.count ∙ sym (length-assemblies (basis_rings M))
 
--- of a refused table there is nothing
-pub basis-refused : {M : Table} {number : ℕ} → number ≡ refusal M → 0 < number → BasisOf M (record { number = number; rings = replicate (max_bonds * words) 0; count = 0 })
-basis-refused given h = record {
-  number = given;
-  refused = λ n. (refl, λ i. ap (λ (l : List ℕ). get_or l i 0) (sets-blank max_bonds) ∙ get_or-same max_bonds i 0);
-  accepted = λ z. absurd (omega arith);
-}
-
--- of an accepted one the basis rings are held
-pub basis-accepted : {M : Table} {b : Basis} → b.number ≡ refusal M → b.number ≤ 0 → Holds M b → BasisOf M b
-basis-accepted given h held = record { number = given; refused = λ n. absurd (n (omega arith)); accepted = λ z. held }
-
-module _ {M : Table} {b : Basis} (h : BasisOf M b) where
-  -- no refusal is given: the basis rings are held
-  pub basis_held : b.number ≤ 0 → Holds M b
-  basis_held z = h.accepted (omega (arith, h.number))
-
-  -- the number and the count are those of the table check
-  pub basis-told : outcome_of b.number b.count [] ≡ counted (refusal M) (length (basis_rings M))
-  basis-told =
-      by (eqb (refusal M) 0)
-      (λ t. let e : b.number ≡ 0 = h.number ∙ eqb-true (refusal M) 0 t in
-      ap (λ (n : ℕ). outcome_of n b.count []) e ∙ check_counted _ h.number (omega arith) (basis_held (omega arith)).count)
-      (λ t. let n = eqb-false (refusal M) 0 t in
-      ap (λ (k : ℕ). outcome_of b.number k []) (h.refused n).0 ∙ check_refused _ h.number (omega (arith, h.number)))
-
 -- two hold the same: as many rings, and the same sets at every place
 abbrev pub SameRings : Basis → Basis → Type 0
 SameRings b c = (b.count ≡ c.count) × ((i : ℕ) → get_or (sets_in b.rings) i 0 ≡ get_or (sets_in c.rings) i 0)
@@ -84,12 +61,12 @@ holds_same {b = b} {c} p q =
           (λ t. let l = ltb-false i b.count t in p.blank i l ∙ sym (q.blank i (omega arith))),
     )
 
--- two of one table have the same number and hold the same
-pub basis-same : {M : Table} {b c : Basis} → BasisOf M b → BasisOf M c → (b.number ≡ c.number) × SameRings b c
-basis-same {M} {b} {c} h k =
-    let same : SameRings b c = by (eqb (refusal M) 0) (λ t. let z = eqb-true (refusal M) 0 t in holds_same (h.accepted z) (k.accepted z))
-    (λ t. let n = eqb-false (refusal M) 0 t in ((h.refused n).0 ∙ sym (k.refused n).0, λ i. (h.refused n).1 i ∙ sym ((k.refused n).1 i))) in
-    (h.number ∙ sym k.number, same)
+-- two of one table tell the same refusal or hold the same
+pub basis-same : {M : Table} {p : Result Basis Refusal} {q : Result Basis Refusal} → BasisOf M p → BasisOf M q
+    → (code_of p ≡ code_of q) × IfOk p (λ b. IfOk q (SameRings b))
+basis-same {M = M} {p = Ok b} {q = Ok c} h k = (h.number ∙ sym k.number, holds_same h.rings k.rings)
+basis-same {M = M} {p = Ok b} {q = Err e} h k = (h.number ∙ sym k.number, tt)
+basis-same {M = M} {p = Err d} {q = q} h k = (h.number ∙ sym k.number, tt)
 
 -- ---- Assemblies
 
@@ -97,40 +74,75 @@ basis-same {M} {b} {c} h k =
 pub members-at : (sets : List RingSet) (a : ℕ) → get_or (map bits sets) a 0 ≡ bits (get_or sets a no_rings)
 members-at sets a = get_or-map bits sets a no_rings 0 no_rings_lem
 
+-- there is a set for each
+pub members-length : (s : Assemblies) → length (members_of s) ≡ array_vec_len s
+members-length s = length-map s.items bits
+
+-- and none after them
+members-past : (s : Assemblies) (a : ℕ) → array_vec_len s ≤ a → get_or (members_of s) a 0 ≡ 0
+members-past s a l = get_or_past (members_of s) a 0 (omega (arith, members-length s))
+
+-- a loop over the sets has passed n of them, and the rest are left
+pub record Left (all : List RingSet) (n : ℕ) (rest : List RingSet) : Type 0 where
+  pub are : rest ≡ drop n all
+
+-- before the first all are
+pub left_all : (all : List RingSet) → Left all 0 all
+left_all all = record { are = refl }
+
+module _ {all rest next : List RingSet} {n : ℕ} {x : RingSet} (left : Left all n rest) (step : rest ≡ x ∷ next) where
+  at : drop n all ≡ x ∷ next
+  at = sym left.are ∙ step
+
+  -- so it is at assembly n
+  pub left_inside : n < length all
+  left_inside = omega (arith, length-drop n all, ap length at)
+
+  -- which has this set
+  pub left_at : get_or (map bits all) n 0 ≡ bits x
+  left_at =
+      let here : n ≡ n + 0 = omega arith in
+      members-at all n ∙ ap bits (ap (λ k. get_or all k no_rings) here ∙ sym (get_or-drop n all 0 no_rings) ∙ ap (λ sets. get_or sets 0 no_rings) at)
+
+  -- and the others are left
+  pub left_next : Left all (n + 1) next
+  left_next = record { are = sym (ap (drop 1) at) ∙ drop-drop 1 n all }
+
+-- at the end all are passed
+pub left_none : {all rest : List RingSet} {n : ℕ} → Left all n rest → length rest ≡ 0 → length all ≤ n
+left_none {all} {rest} {n} left none = omega (arith, length-drop n all, ap length left.are)
+
 module _ {rs : List ℕ} {s : Assemblies} (h : AssembliesOf rs s) where
   -- the set of assembly a has the rings whose assembly is a
-  pub members-has : (a i : ℕ) → a < s.count → has (get_or (members_of s) a 0) i ≡ ltb i (length rs) && eqb (number rs i) a
+  pub members-has : (a i : ℕ) → a < array_vec_len s → has (get_or (members_of s) a 0) i ≡ ltb i (length rs) && eqb (number rs i) a
   members-has a i l = ap (λ (t : ℕ). has t i) (h.members a l) ∙ has-set_of (length rs) (λ j. eqb (number rs j) a) i
 
   -- so each of its rings is one of the list
   pub members_below : (a i : ℕ) → has (get_or (members_of s) a 0) i ≡ true → i < length rs
   members_below a i e =
-      by (ltb a s.count)
-      (λ t. ltb-true i (length rs) (and_both (ltb i (length rs)) (eqb (number rs i) a) (sym (members-has a i (ltb-true a s.count t)) ∙ e)).0)
-      (λ t. clashes e (ap (λ (m : ℕ). has m i) (h.blank a (ltb-false a s.count t)) ∙ has-zero i))
+      by (ltb a (array_vec_len s))
+      (λ t. ltb-true i (length rs) (and_both (ltb i (length rs)) (eqb (number rs i) a) (sym (members-has a i (ltb-true a (array_vec_len s) t)) ∙ e)).0)
+      (λ t. clashes e (ap (λ (m : ℕ). has m i) (members-past s a (ltb-false a (array_vec_len s) t)) ∙ has-zero i))
 
   -- it has as many rings as the assembly
-  pub members-size : (a : ℕ) → a < s.count → size (get_or (members_of s) a 0) ≡ length (rings_in rs a)
+  pub members-size : (a : ℕ) → a < array_vec_len s → size (get_or (members_of s) a 0) ≡ length (rings_in rs a)
   members-size a l = ap size (h.members a l) ∙ size-set_of (length rs) (λ i. eqb (number rs i) a) ∙ sym (length-rings_in rs a)
 
--- two hold the same: as many assemblies, and the same sets at every place
+-- two hold the same sets in order, so as many
 abbrev pub SameAssemblies : Assemblies → Assemblies → Type 0
-SameAssemblies s t = (s.count ≡ t.count) × ((a : ℕ) → get_or (members_of s) a 0 ≡ get_or (members_of t) a 0)
+SameAssemblies s t = members_of s ≡ members_of t
 
 -- two of one list of basis rings do
 pub assemblies-same : {rs : List ℕ} {s t : Assemblies} → AssembliesOf rs s → AssembliesOf rs t → SameAssemblies s t
-assemblies-same {s = s} h k =
-    let e = h.count ∙ sym k.count in (
-      e,
-      λ a. by (ltb a s.count) (λ t. let l = ltb-true a s.count t in h.members a l ∙ sym (k.members a (omega arith)))
-          (λ t. let l = ltb-false a s.count t in h.blank a l ∙ sym (k.blank a (omega arith))),
-    )
+assemblies-same {s = s} {t} h k =
+    ext_get_or 0 (members_of s) (members_of t) (members-length s ∙ h.count ∙ sym (members-length t ∙ k.count))
+    (λ a l. let at : a < array_vec_len s = omega (arith, members-length s) in h.members a at ∙ sym (k.members a (omega (arith, h.count, k.count))))
 
 -- ---- both
 
 module _ {M : Table} {b : Basis} {s : Assemblies} (h : Holds M b) (p : AssembliesOf (basis_rings M) s) where
   -- the basis rings of an assembly stand at the places that its set names
-  pub picked-rings : (a : ℕ) → a < s.count → picked (sets_in b.rings) (get_or (members_of s) a 0) ≡ rings_in (basis_rings M) a
+  pub picked-rings : (a : ℕ) → a < array_vec_len s → picked (sets_in b.rings) (get_or (members_of s) a 0) ≡ rings_in (basis_rings M) a
   unfolding rings_in
   picked-rings a l =
       listed_gap (has set) ring n room (omega (arith, h.count, h.counted)) (λ k m j. members-has p a k l ∙ ap (λ (t : Bool). t && q k) (le-ltb k n m))
@@ -151,7 +163,7 @@ module _ {M : Table} {b : Basis} {s : Assemblies} (h : Holds M b) (p : Assemblie
 
   -- so what is made of them, one assembly after another, is made of the assemblies of the table
   pub picked_all : {A : Type 0} (f : List ℕ → List A)
-      → gather s.count (λ a. f (picked (sets_in b.rings) (get_or (members_of s) a 0))) ≡ gather (assembly_count (basis_rings M)) (λ a. f (rings_in (basis_rings M) a))
+      → gather (array_vec_len s) (λ a. f (picked (sets_in b.rings) (get_or (members_of s) a 0))) ≡ gather (assembly_count (basis_rings M)) (λ a. f (rings_in (basis_rings M) a))
   picked_all f =
-      gather_ext s.count _ (λ a. f (rings_in (basis_rings M) a)) (λ a l. ap f (picked-rings a l))
+      gather_ext (array_vec_len s) _ (λ a. f (rings_in (basis_rings M) a)) (λ a l. ap f (picked-rings a l))
       ∙ ap (λ (n : ℕ). gather n (λ a. f (rings_in (basis_rings M) a))) p.count

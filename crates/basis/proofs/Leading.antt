@@ -4,26 +4,19 @@ use mathlib.Core.Path.{◌≡◌, refl, sym, ap, ◌∙◌}
 use mathlib.Core.Logic.{◌⊎◌, inl, inr, ⊎_elim}
 use mathlib.Core.Bool.{false}
 use mathlib.Core.List.{List, []}
-use Prim.Native.Nat.{ℕ, ◌+◌, ◌≤◌, ◌<◌, min, max}
+use Prim.Native.Nat.{ℕ, ◌≤◌, ◌<◌, min, max}
 use native.Mathlib.Omega.{arith}
 use lib.Bits.{bit_xor}
 use lib.ListN.{length, get_or, set}
 use lib.Seq.{get_or-set_same, get_or-set_other}
 use lib.Dec.{eqb}
 use borrow.Author.Tests.{eqb-true, eqb-false}
-use Rattle.definitions.specs.Table.{Table, max_atoms}
+use Rattle.definitions.specs.Table.{Table}
 use Rattle.definitions.specs.Basis.{classes, ends_below, fragments}
 use Rattle.definitions.proofs.Tests.{by}
 use Rattle.definitions.proofs.Classes.{merged, merged_other, merged_either, label_none}
-use Rattle.basis.specs.Climbing.{Falling, Climbed, Climbs}
+use Rattle.basis.specs.Climbing.{Climbed, Climbs}
 use Rattle.basis.specs.Climbing.Climbed.{start, on}
-
--- no atom leads to a higher one, also where one is led anew
-pub set_falling : (lower : List ℕ) (a b : ℕ) → a < length lower → b ≤ a → Falling lower → Falling (set lower a b)
-set_falling lower a b l h falls i m =
-    by (eqb i a)
-    (λ e. rw (eqb-true i a e, get_or-set_same lower a b 0 l) h)
-    (λ e. rw (get_or-set_other lower a i b 0 (eqb-false i a e)) (falls i m))
 
 -- of n atoms each leads to one of its own number, and one that leads to itself has itself for its number
 pub record Leads (n : ℕ) (lower numbers : List ℕ) : Type 0 where
@@ -38,13 +31,6 @@ leads-same {lower = lower} next s step = record {
 }
 
 -- ---- the start: each atom leads to itself
-
--- one atom more
-pub own_more : (lower : List ℕ) (a : ℕ) → a < length lower → ((i : ℕ) → i < a → get_or lower i 0 ≡ i) → (i : ℕ) → i < a + 1 → get_or (set lower a a) i 0 ≡ i
-own_more lower a l own i h =
-    by (eqb i a)
-    (λ e. rw (eqb-true i a e) (get_or-set_same lower a a 0 l))
-    (λ e. get_or-set_other lower a i a 0 (eqb-false i a e) ∙ own i (omega (arith, eqb-false i a e)))
 
 -- with no bond tried each atom is the first of its fragment
 pub own_leads : (M : Table) (lower : List ℕ) → ((a : ℕ) → a < M.atoms → get_or lower a 0 ≡ a) → Leads M.atoms lower (fragments M 0)
@@ -71,11 +57,6 @@ climbed-number : {lower ways numbers : List ℕ} {n atom a w : ℕ} → Leads n 
     → get_or numbers a 0 ≡ get_or numbers atom 0
 climbed-number s l start = refl
 climbed-number s l (on {a = a} c h) = s.together a (omega (arith, climbed_low c)) ∙ climbed-number s l c
-
--- it ends at an atom that leads to no lower one
-pub climbed-last : {lower ways : List ℕ} {atom a w : ℕ} → Climbed lower ways atom a w → Falling lower → atom < max_atoms → a ≤ get_or lower a 0
-    → Climbs lower ways atom a w
-climbed-last {a = a} c falls l h = record { climbed = c; last = omega (arith, falls a (omega (arith, climbed_low c))) }
 
 -- so at the number of the atom
 pub climbs_number : {lower ways numbers : List ℕ} {n atom r w : ℕ} → Leads n lower numbers → atom < n → Climbs lower ways atom r w → r ≡ get_or numbers atom 0

@@ -1,5 +1,6 @@
 -- Why the algorithms are right, and what the crates above cite.
 --     Putting       a number put into a set
+--     Taken         which members of a set a `for` over it has taken
 --     Leading       the list that leads each atom to a lower one of its fragment
 --     Ways          sets of forest bonds that meet all atoms evenly but two
 --     Collecting    a loop over the bonds that puts a set for some of them into an array
@@ -9,6 +10,7 @@
 --     Numbering     the clusters are the assemblies, in order
 --     Writing       the assembly of each basis ring, written over a list
 pub mod Putting
+pub mod Taken
 pub mod Leading
 pub mod Ways
 pub mod Collecting

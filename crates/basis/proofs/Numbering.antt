@@ -2,28 +2,29 @@
 -- the assembly of that number; where no ring is left all assemblies are found. Assumes nothing.
 use mathlib.Core.Path.{◌≡◌, refl, sym, ap, ap₂, ◌∙◌}
 use mathlib.Core.Bool.{Bool, true, false, ◌&&◌, not, and-true}
-use mathlib.Core.List.{List}
+use mathlib.Core.List.{List, [], ◌∷◌, ◌++◌}
 use Prim.Native.Nat.{ℕ, ◌+◌, ◌≤◌, ◌<◌, min}
 use native.Mathlib.Omega.{arith}
 use borrow.Author.Tests.{eqb-true, eqb-false, eq-eqb, ltb-true, lt-ltb, leb-true, leb-false, le-leb, ne_eqb, not-true}
 use lib.Dec.{eqb, ltb, leb}
-use lib.ListN.{length, get_or, set, replicate, length-set, length-replicate}
-use lib.Seq.{get_or-set_same, get_or-set_other}
-use Rattle.sets.specs.Bits.{has, all_below, IsNext}
+use lib.ListN.{length, get_or, length-append, get_or-append}
+use Rattle.std.proofs.lemmas.List.{get_or_push}
+use Rattle.sets.specs.Bits.{has, all_below}
 use Rattle.sets.specs.Ring.{bits, no_rings, room}
+use Rattle.sets.specs.Rising.{rising}
 use Rattle.sets.specs.declared.ring.RingSet.{RingSet}
 use Rattle.sets.proofs.Laws.{ext, has-all_below}
+use Rattle.sets.proofs.Upward.{Turn}
 use Rattle.sets.proofs.Members.{common, meet_of}
-use Rattle.sets.proofs.Machine.{no_rings_lem}
 use Rattle.definitions.specs.Search.{set_of}
-use Rattle.definitions.specs.Table.{max_bonds}
 use Rattle.definitions.specs.Assembly.{share?, assembly_count, Linked}
 use Rattle.definitions.specs.Assembly.Linked.{same, by as shares}
 use Rattle.definitions.proofs.Tests.{by, clashes, and_both, both_and, not_passed, not_failed, same_test}
-use Rattle.definitions.proofs.Lists.{has-set_of, count-le, get_or-same}
+use Rattle.definitions.proofs.Lists.{has-set_of, count-le}
 use Rattle.definitions.proofs.Linking.{number, first?, assembly_count_lem, number_below, number_next, number_all, linked_test, linked_trans, linked_closed}
 use Rattle.basis.specs.Held.{AssembliesOf}
 use Rattle.basis.specs.Clusters.{Group, Grouped, Apart}
+use Rattle.basis.proofs.Taken.{none_below}
 use Rattle.basis.proofs.Holding.{members-at}
 
 -- not below n and not n is above n
@@ -34,27 +35,29 @@ above true n x =
     (λ e. let (p, q) = and_both (leb n x) (not (eqb x n)) e in le-leb (n + 1) x (omega (arith, leb-true n x p, eqb-false x n (not-true (eqb x n) q))))
     (λ e. let p = leb-true (n + 1) x e in both_and (le-leb n x (omega arith)) (ap not (ne_eqb x n (omega arith))))
 
--- the sets of the first n assemblies are found, and the rings of the others are left
-pub record Divided (rs : List ℕ) (sets : List RingSet) (n left : ℕ) : Type 0 where
-  pub long : length sets ≡ max_bonds
-  pub low : n ≤ assembly_count rs
-  pub found : (a : ℕ) → a < n → bits (get_or sets a no_rings) ≡ set_of (length rs) (λ i. eqb (number rs i) a)
-  pub rest : (i : ℕ) → has left i ≡ ltb i (length rs) && leb n (number rs i)
-  pub blank : (a : ℕ) → n ≤ a → bits (get_or sets a no_rings) ≡ 0
+-- the sets of the first assemblies are found, and the rings of the others are left
+pub record Divided (rs : List ℕ) (sets : List RingSet) (left : ℕ) : Type 0 where
+  pub few : length rs ≤ room
+  pub low : length sets ≤ assembly_count rs
+  pub found : (a : ℕ) → a < length sets → bits (get_or sets a no_rings) ≡ set_of (length rs) (λ i. eqb (number rs i) a)
+  pub rest : (i : ℕ) → has left i ≡ ltb i (length rs) && leb (length sets) (number rs i)
 
 -- at the start all rings are left
-pub divided_none : (rs : List ℕ) {sets : List RingSet} {left : ℕ} → length rs ≤ room → sets ≡ replicate max_bonds no_rings → left ≡ all_below (min (length rs) room) → Divided rs sets 0 left
-divided_none rs few e l = rw e (record {
-  long = length-replicate max_bonds no_rings;
+pub divided_none : (rs : List ℕ) {left : ℕ} → length rs ≤ room → left ≡ all_below (min (length rs) room) → Divided rs [] left
+divided_none rs few l = record {
+  few = few;
   low = omega arith;
   found = λ a h. absurd (omega arith);
   rest = λ i.
       let short : min (length rs) room ≡ length rs = omega arith in
       rw (l, short, le-leb 0 (number rs i) (omega arith)) (has-all_below (length rs) i ∙ sym (and-true (ltb i (length rs))));
-  blank = λ a h. ap bits (get_or-same max_bonds a no_rings) ∙ no_rings_lem;
-})
+}
 
-module _ {rs : List ℕ} {sets : List RingSet} {n left : ℕ} (d : Divided rs sets n left) where
+module _ {rs : List ℕ} {sets : List RingSet} {left : ℕ} (d : Divided rs sets left) where
+  -- so many are found
+  abbrev n : ℕ
+  n = length sets
+
   -- a ring that is left has a number that is not used
   left-number : (i : ℕ) → has left i ≡ true → (i < length rs) × (n ≤ number rs i)
   left-number i h =
@@ -72,20 +75,20 @@ module _ {rs : List ℕ} {sets : List RingSet} {n left : ℕ} (d : Divided rs se
   left_below i h = (left-number i h).0
 
   -- where no ring is left all assemblies are found
-  pub divided_all : {first : ℕ} → length rs ≤ room → IsNext room left 0 first → room ≤ first → AssembliesOf rs (record { members = sets; count = n })
-  divided_all few next h =
-      let e = number_all rs n d.low (λ j l. used j l (next.none j (omega arith) (omega arith))) in
-      record { count = e; counted = omega (arith, assembly_count_lem rs, count-le (first? rs) (length rs)); members = λ a l. members-at sets a ∙ d.found a l; blank = λ a l. members-at sets a ∙ d.blank a l }
+  pub divided_all : [] ≡ rising room left → AssembliesOf rs (record { items = sets })
+  divided_all none =
+      let e = number_all rs n d.low (λ j l. used j l (none_below room left none j (omega (arith, d.few)))) in
+      record { count = e; counted = omega (arith, assembly_count_lem rs, count-le (first? rs) (length rs)); members = λ a l. members-at sets a ∙ d.found a l }
 
-  module _ {first : ℕ} (few : length rs ≤ room) (next : IsNext room left 0 first) (h : first < room) where
+  module _ {first : ℕ} (next : Turn room left [] first) where
     -- the first ring left has the next number
     next_number : number rs first ≡ n
     next_number =
-        let (l, m) = left-number first (next.member h) in
-        number_next rs n first l (λ j i. used j (omega arith) (next.none j (omega arith) i)) m
+        let (l, m) = left-number first next.member in
+        number_next rs n first l (λ j i. used j (omega arith) (none_below first left next.before j i)) m
 
     first_below : first < length rs
-    first_below = left_below first (next.member h)
+    first_below = left_below first next.member
 
     -- there is room for it
     pub divided_room : n < room
@@ -123,14 +126,18 @@ module _ {rs : List ℕ} {sets : List RingSet} {n left : ℕ} (d : Divided rs se
       rest_are : (i : ℕ) → has g.left i ≡ ltb i (length rs) && leb (n + 1) (number rs i)
       rest_are i = q.other i ∙ ap₂ (λ (x y : Bool). x && not y) (d.rest i) (members_are i) ∙ above (ltb i (length rs)) n (number rs i)
 
-      pub divided_more : {x : RingSet} → bits x ≡ g.members → Divided rs (set sets n x) (n + 1) g.left
+      pub divided_more : {x : RingSet} → bits x ≡ g.members → Divided rs (sets ++ x ∷ []) g.left
       divided_more {x} e = record {
-        long = simp length-set d.long;
-        low = omega (arith, next_number, number_below rs first first_below);
+        few = d.few;
+        low = omega (arith, more, next_number, number_below rs first first_below);
         found = λ b l.
             by (eqb b n)
-            (λ t. rw (eqb-true b n t) (ap bits (get_or-set_same sets n x no_rings (omega (arith, divided_room, d.long))) ∙ e ∙ assembly))
-            (λ t. ap bits (get_or-set_other sets n b x no_rings (eqb-false b n t)) ∙ d.found b (omega (arith, eqb-false b n t)));
-        rest = rest_are;
-        blank = λ b l. ap bits (get_or-set_other sets n b x no_rings (omega arith)) ∙ d.blank b (omega arith);
+            (λ t. rw (eqb-true b n t) (ap bits (get_or_push sets x no_rings n refl) ∙ e ∙ assembly))
+            (λ t.
+            let l : b < n = omega (arith, more, eqb-false b n t) in
+            ap bits (get_or-append sets (x ∷ []) no_rings b l) ∙ d.found b l);
+        rest = λ i. rw more (rest_are i);
       }
+        where
+          more : length (sets ++ x ∷ []) ≡ n + 1
+          more = length-append sets (x ∷ [])

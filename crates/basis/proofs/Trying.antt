@@ -21,10 +21,10 @@ use Rattle.definitions.proofs.Lists.{get_or-same}
 use Rattle.definitions.proofs.Classes.{merged, merged_same}
 use Rattle.definitions.proofs.Paths.{fragments_more}
 use Rattle.definitions.proofs.Refusals.{Valid}
-use Rattle.basis.specs.Climbing.{Falling, Climbed, Climbs}
+use Rattle.basis.specs.Climbing.{Climbed, Climbs}
 use Rattle.basis.specs.Climbing.Climbed.{start, on}
 use Rattle.basis.specs.Held.{Holds}
-use Rattle.basis.proofs.Leading.{Leads, set_falling, leads-same, own_leads, climbed_low, climbs_number, settled_last, settled_leads, joined_leads}
+use Rattle.basis.proofs.Leading.{Leads, leads-same, own_leads, climbed_low, climbs_number, settled_last, settled_leads, joined_leads}
 use Rattle.basis.proofs.Ways.{Between, between_none, between_turn, between-sum, between_more, round_between, round_ring}
 use Rattle.basis.proofs.Collecting.{Collected, collected_none, collected_skip, collected_take, collected_count}
 
@@ -42,19 +42,17 @@ pub record Tried (M : Table) (lower ways rings : List ℕ) (n k : ℕ) : Type 0 
   pub within : k ≤ bonds M
   pub atoms : length lower ≡ max_atoms
   pub places : length ways ≡ max_atoms
-  pub falling : Falling lower
   pub leads : Leads M.atoms lower (fragments M k)
   pub known : Ways M k lower ways
   pub found : Collected (closure? M) (basis_ring M) rings n k
 
 -- before the first bond each atom leads to itself
-pub tried_none : (M : Table) (lower : List ℕ) {ways rings : List ℕ} → length lower ≡ max_atoms → Falling lower → ((a : ℕ) → a < M.atoms → get_or lower a 0 ≡ a)
+pub tried_none : (M : Table) (lower : List ℕ) {ways rings : List ℕ} → length lower ≡ max_atoms → ((a : ℕ) → a < M.atoms → get_or lower a 0 ≡ a)
     → ways ≡ replicate max_atoms 0 → rings ≡ replicate max_bonds 0 → Tried M lower ways rings 0 0
-tried_none M lower e falls own ew er = rw (ew, er) (record {
+tried_none M lower e own ew er = rw (ew, er) (record {
   within = omega arith;
   atoms = e;
   places = length-replicate {A = ℕ} max_atoms 0;
-  falling = falls;
   leads = own_leads M lower own;
   known = λ a h. rw (own a h, get_or-same {A = ℕ} max_atoms a 0) (between_none M 0 a);
   found = collected_none (closure? M) (basis_ring M) (length-replicate {A = ℕ} max_bonds 0) (λ i. get_or-same max_bonds i 0);
@@ -81,7 +79,6 @@ module _ {M : Table} {lower ways rings : List ℕ} {n k : ℕ} (t : Tried M lowe
       within = t.within;
       atoms = simp length-set t.atoms;
       places = simp length-set t.places;
-      falling = set_falling lower a x below.0 r.low t.falling;
       leads = settled_leads t.leads below.0 (omega (arith, r.low)) r.last r.number;
       known = λ i h. by (eqb i a) (λ z. own i (eqb-true i a z)) (λ z. other i h (eqb-false i a z));
       found = t.found;
@@ -147,7 +144,6 @@ module _ {M : Table} {lower ways rings : List ℕ} {n k : ℕ} (t : Tried M lowe
     within = omega arith;
     atoms = t.atoms;
     places = t.places;
-    falling = t.falling;
     leads = leads-same (fragments M (k + 1)) t.leads (λ i. next i ∙ merged_same x y _ same);
     known = λ i h. between_more (t.known i h);
     found = collected_take t.found (omega (arith, valid.few-bonds)) (sym closes ∙ eq-eqb x y same) (round_ring valid l tail-way head-way whole same);
@@ -159,7 +155,6 @@ module _ {M : Table} {lower ways rings : List ℕ} {n k : ℕ} (t : Tried M lowe
     within = omega arith;
     atoms = simp length-set t.atoms;
     places = simp length-set t.places;
-    falling = set_falling lower (max x y) (min x y) (omega (arith, below)) (omega arith) t.falling;
     leads = joined_leads lower x y (omega (arith, below)) t.leads low.0 low.1 cx.last cy.last (fragments M (k + 1)) next;
     known = λ i h. by (eqb i (max x y)) (λ z. own i (eqb-true i (max x y) z)) (λ z. other i h (eqb-false i (max x y) z));
     found = collected_skip t.found two;
@@ -196,8 +191,8 @@ module _ {M : Table} {lower ways rings : List ℕ} {n k : ℕ} (t : Tried M lowe
   tried_turn = (tried_ring, tried_join)
 
 -- after the last bond the rings are the basis rings
-pub tried_all : {M : Table} {lower ways rings : List ℕ} {number n k : ℕ} → Valid M → Tried M lower ways (sets_in rings) n k → bonds M ≤ k
-    → Holds M (record { number = number; rings = rings; count = n })
+pub tried_all : {M : Table} {lower ways rings : List ℕ} {n k : ℕ} → Valid M → Tried M lower ways (sets_in rings) n k → bonds M ≤ k
+    → Holds M (record { rings = rings; count = n })
 unfolding basis_rings
 tried_all {M} {rings = rings} {n = n} valid t h =
     let whole : take n (sets_in rings) ≡ listed (bonds M) (closure? M) (basis_ring M) = t.found.list ∙ ap (λ (i : ℕ). listed i (closure? M) (basis_ring M)) (le_antisymm t.within h) in

@@ -1,80 +1,68 @@
 -- The assembly of each basis ring, written assembly after assembly: before each turn of either loop the places of the rings that are passed
 -- have their numbers, and the others are as lent. Assumes nothing.
 use mathlib.Core.Path.{◌≡◌, refl, sym, ap, ◌∙◌}
-use mathlib.Core.Bool.{Bool, true, false, ◌&&◌, cond, and-false}
-use mathlib.Core.List.{List}
-use Prim.Native.Nat.{ℕ, ◌+◌, ◌-◌, ◌≤◌, ◌<◌}
+use mathlib.Core.Logic.{⊎_elim}
+use mathlib.Core.Bool.{Bool, true, false, ◌&&◌, cond}
+use mathlib.Core.List.Memᴰ
+use mathlib.Core.List.{List, [], ◌∷◌, ◌++◌, Memᴰ as In}
+use Prim.Native.Nat.{ℕ, ◌+◌, ◌-◌, ◌^◌, ◌≤◌, ◌<◌}
 use native.Mathlib.Omega.{arith}
 use borrow.Author.Tests.{eqb-true, eqb-false, ltb-true, ltb-false, lt-ltb, le-ltb}
 use lib.Dec.{eqb, ltb}
 use lib.ListN.{length, get_or, drop, set, length-set, get_or-append}
-use lib.Seq.{get_or-set_same, get_or-set_other, get_or-append-add, get_or-drop, ext_get_or}
-use Rattle.sets.specs.Bits.{has, IsNext}
-use Rattle.sets.specs.Ring.{bits, no_rings}
+use lib.Seq.{get_or-append-add, get_or-drop, get_or-set_same, get_or-set_other, ext_get_or}
+use Rattle.sets.specs.Bits.{has}
+use Rattle.sets.specs.Ring.{bits, no_rings, room}
+use Rattle.sets.specs.Rising.{rising}
+use Rattle.sets.proofs.Laws.{member_below}
 use Rattle.definitions.specs.Table.{Table}
 use Rattle.definitions.specs.Basis.{basis_rings}
 use Rattle.definitions.specs.Assembly.{assemblies_of, assemblies}
 use Rattle.definitions.specs.Answer.{over}
-use Rattle.definitions.proofs.Tests.{by, clashes, and_both, both_and, same_test}
-use Rattle.definitions.proofs.Passing.{Passed, passed_rises}
+use Rattle.definitions.proofs.Tests.{by, clashes}
+use Rattle.definitions.proofs.Lists.{in_snoc, in_last}
 use Rattle.definitions.proofs.Linking.{number, length-assemblies, number_below}
 use Rattle.lent.proofs.Appending.{over-length}
-use Rattle.basis.specs.Held.{rings_of, Holds, members_of, AssembliesOf}
+use Rattle.basis.specs.Held.{rings_of, Holds, Assemblies, members_of, AssembliesOf}
 use Rattle.basis.specs.Clusters.{Numbered}
-use Rattle.basis.specs.declared.assembly.Assemblies.{Assemblies}
+use Rattle.arrayvec.specs.ArrayVec.{array_vec_len}
 use Rattle.basis.specs.declared.basis.Basis.{Basis}
+use Rattle.basis.proofs.Taken.{in_rising}
 use Rattle.basis.proofs.Holding.{held_assemblies, members-at, members-has, members_below}
-
--- where no place passes the list is as it was
-numbered_none : (p : ℕ → Bool) (f : ℕ → ℕ) (l : List ℕ) → ((j : ℕ) → p j ≡ false) → Numbered p f l l
-numbered_none p f l none = record { long = refl; at = λ j. sym (ap (λ (t : Bool). cond t (f j) (get_or l j 0)) (none j)) }
 
 -- ---- the rings of one assembly
 
--- the members of s below i are passed
-abbrev pub Marked : ℕ → ℕ → ℕ → List ℕ → List ℕ → Type 0
-Marked s a i before after = Numbered (λ j. has s j && ltb j i) (λ j. a) before after
+-- the places taken so far have the number a
+pub record Marked (a : ℕ) (xs before after : List ℕ) : Type 0 where
+  pub long : length after ≡ length before
+  pub taken : (j : ℕ) → In j xs → get_or after j 0 ≡ a
+  pub other : (j : ℕ) → (In j xs → ⊥) → get_or after j 0 ≡ get_or before j 0
 
--- before the first member the list is as it was
-pub marked_none : {m s i : ℕ} (a : ℕ) (l : List ℕ) → IsNext m s 0 i → Marked s a i l l
-marked_none {s = s} {i = i} a l n =
-    numbered_none _ _ l (λ j. by (ltb j i) (λ t. ap (λ (b : Bool). b && ltb j i) (n.none j (omega arith) (ltb-true j i t))) (λ t. rw t (and-false (has s j))))
+module _ {a : ℕ} {xs l out : List ℕ} (q : Marked a xs l out) where
+  -- one more
+  pub marked_more : {k : ℕ} → k < length out → Marked a (xs ++ (k ∷ [])) l (set out k a)
+  marked_more {k} h = record {
+    long = length-set out k a ∙ q.long;
+    taken = λ j i.
+        by (eqb j k) (λ e. rw (eqb-true j k e) (get_or-set_same out k a 0 h))
+        (λ e. get_or-set_other out k j a 0 (eqb-false j k e) ∙ q.taken j (⊎_elim (λ t. t) (λ is. absurd (eqb-false j k e is)) (in_snoc xs i)));
+    other = λ j n. get_or-set_other out k j a 0 (λ is. n (rw is (in_last xs k))) ∙ q.other j (λ i. n (Memᴰ.append_left (k ∷ []) i));
+  }
 
--- the number is written at the next member
-pub marked_more : {m s a i k : ℕ} {l out : List ℕ} → Passed m s i → i < m → IsNext m s (i + 1) k → i < length out → Marked s a i l out → Marked s a k l (set out i a)
-marked_more {s = s} {a = a} {i = i} {k = k} {l = l} {out = out} p h n inside q = record {
-  long = length-set out i a ∙ q.long;
-  at = λ j. by (eqb j i)
-      (λ t. rw (eqb-true j i t, get_or-set_same out i a 0 inside, p.member h, lt-ltb i k rises))
-      (λ t. get_or-set_other out i j a 0 (eqb-false j i t) ∙ q.at j ∙ ap (λ (b : Bool). cond b a (get_or l j 0)) (same j (eqb-false j i t)));
-}
-  where
-    rises : i < k
-    rises = passed_rises p h n
-
-    -- between i and the next there is no member
-    same : (j : ℕ) → (j ≡ i → ⊥) → has s j && ltb j i ≡ has s j && ltb j k
-    same j ne =
-        same_test _ _ (λ e. let (u, v) = and_both (has s j) (ltb j i) e in both_and u (lt-ltb j k (omega (arith, rises, ltb-true j i v))))
-        (λ e. let (u, v) = and_both (has s j) (ltb j k) e in
-        by (ltb j i) (both_and u) (λ t. clashes u (n.none j (omega (arith, ltb-false j i t)) (ltb-true j k v))))
-
--- after the last member each has it
-pub marked_all : {m a i : ℕ} {l out : List ℕ} (s : ℕ) → ((j : ℕ) → has s j ≡ true → j < m) → m ≤ i → Marked s a i l out → Numbered (has s) (λ j. a) l out
-marked_all {a = a} {i = i} {l = l} s below h q = record {
-  long = q.long;
-  at = λ j. q.at j ∙ ap (λ (b : Bool). cond b a (get_or l j 0)) (same_test _ _ (λ e. (and_both (has s j) (ltb j i) e).0) (λ e. both_and e (lt-ltb j i (omega (arith, below j e)))));
-}
+  -- after the last each member has it
+  pub marked_all : {s : ℕ} → s < 2 ^ room → xs ≡ rising room s → Numbered (has s) (λ j. a) l out
+  marked_all {s} b done = record {
+    long = q.long;
+    at = λ j.
+        by (has s j) (λ e. rw e (q.taken j (rw done ((in_rising room s j).1 (member_below room j b e, e)))))
+        (λ e. rw e (q.other j (λ i. clashes ((in_rising room s j).0 (rw done at i)).1 e)));
+  }
 
 -- ---- the assemblies in order
 
 -- the rings of the assemblies below a are passed
 abbrev pub Assigned : List ℕ → ℕ → List ℕ → List ℕ → Type 0
 Assigned rs a before after = Numbered (λ j. ltb j (length rs) && ltb (number rs j) a) (number rs) before after
-
--- before the first assembly the list is as it was
-pub assigned_none : (rs l : List ℕ) → Assigned rs 0 l l
-assigned_none rs l = numbered_none _ _ l (λ j. rw (le-ltb (number rs j) 0 (omega arith)) (and-false (ltb j (length rs))))
 
 -- a number is below a + 1 where it is a or below a
 turn : (t : Bool) (x a y : ℕ) → cond (t && eqb x a) a (cond (t && ltb x a) x y) ≡ cond (t && ltb x (a + 1)) x y
@@ -85,17 +73,17 @@ turn true x a y =
     (by (ltb x a) (λ u. rw (u, lt-ltb x (a + 1) (omega (arith, ltb-true x a u)))) (λ u. rw (u, le-ltb x (a + 1) (omega (arith, ltb-false x a u))))))
 
 -- the rings of the next assembly have its number
-pub assigned_more : {rs : List ℕ} {s : Assemblies} {a : ℕ} {l out new : List ℕ} → AssembliesOf rs s → a < s.count → Assigned rs a l out
-    → Numbered (has (bits (get_or s.members a no_rings))) (λ j. a) out new → Assigned rs (a + 1) l new
+pub assigned_more : {rs : List ℕ} {s : Assemblies} {a : ℕ} {l out new : List ℕ} → AssembliesOf rs s → a < array_vec_len s → Assigned rs a l out
+    → Numbered (has (bits (get_or s.items a no_rings))) (λ j. a) out new → Assigned rs (a + 1) l new
 assigned_more {rs} {s} {a} {l} {out} o h q w = record {
   long = w.long ∙ q.long;
   at = λ j.
-      w.at j ∙ rw (ap (λ (t : ℕ). has t j) (sym (members-at s.members a)) ∙ members-has o a j h, q.at j)
+      w.at j ∙ rw (ap (λ (t : ℕ). has t j) (sym (members-at s.items a)) ∙ members-has o a j h, q.at j)
       (turn (ltb j (length rs)) (number rs j) a (get_or l j 0));
 }
 
 -- after the last assembly each ring has its number
-pub assigned_all : {rs : List ℕ} {s : Assemblies} {a : ℕ} {l out : List ℕ} → AssembliesOf rs s → length rs ≤ length l → s.count ≤ a → Assigned rs a l out → out ≡ over (assemblies_of rs) l
+pub assigned_all : {rs : List ℕ} {s : Assemblies} {a : ℕ} {l out : List ℕ} → AssembliesOf rs s → length rs ≤ length l → array_vec_len s ≤ a → Assigned rs a l out → out ≡ over (assemblies_of rs) l
 unfolding over
 assigned_all {rs} {s} {a} {l} {out} o room h q =
     ext_get_or 0 out (over (assemblies_of rs) l) (q.long ∙ sym (over-length (assemblies_of rs) l (omega (arith, long))))

@@ -1,13 +1,16 @@
 -- What a Basis and Assemblies hold, and whose they are. Assumes nothing.
-use Rattle.std.specs.Prelude.{◌≡◌, ◌≢◌, List, map, ℕ, ◌≤◌, ◌<◌, eqb, length, get_or, take}
+use Rattle.std.specs.Prelude.{◌≡◌, List, map, ℕ, ◌≤◌, ◌<◌, eqb, length, get_or, take, Result, IfOk}
 use Rattle.sets.specs.Ring.{bits}
 use Rattle.sets.specs.Lists.{sets_in}
 use Rattle.definitions.specs.Search.{set_of}
 use Rattle.definitions.specs.Table.{Table, max_bonds, refusal}
 use Rattle.definitions.specs.Basis.{basis_rings}
 use Rattle.definitions.specs.Assembly.{assemblies_of, assembly_count}
+use Rattle.answers.specs.Told.{code_of}
+use Rattle.answers.specs.declared.refusal.Refusal.{Refusal}
 use Rattle.basis.specs.declared.basis.Basis.{Basis}
-use Rattle.basis.specs.declared.assembly.Assemblies.{Assemblies}
+use Rattle.sets.specs.declared.ring.RingSet.{RingSet}
+use Rattle.arrayvec.specs.ArrayVec.{ArrayVec, array_vec_len}
 
 -- the sets that a Basis holds, in order
 abbrev pub rings_of : Basis → List ℕ
@@ -20,19 +23,21 @@ pub record Holds (M : Table) (b : Basis) : Type 0 where
   pub counted : b.count ≤ max_bonds
   pub blank : (i : ℕ) → b.count ≤ i → get_or (sets_in b.rings) i 0 ≡ 0
 
--- b is the number of the refusal and nothing else, or 0 and the basis rings
-pub record BasisOf (M : Table) (b : Basis) : Type 0 where
-  pub number : b.number ≡ refusal M
-  pub refused : refusal M ≢ 0 → (b.count ≡ 0) × ((i : ℕ) → get_or (sets_in b.rings) i 0 ≡ 0)
-  pub accepted : refusal M ≡ 0 → Holds M b
+-- r tells why the table is refused, or holds the basis rings
+pub record BasisOf (M : Table) (r : Result Basis Refusal) : Type 0 where
+  pub number : code_of r ≡ refusal M
+  pub rings : IfOk r (Holds M)
 
--- the sets of basis rings, one an assembly
+-- the assemblies in order, each as the set of its basis rings
+abbrev pub Assemblies : Type 0
+Assemblies = ArrayVec RingSet
+
+-- these sets as numbers
 abbrev pub members_of : Assemblies → List ℕ
-members_of s = map bits s.members
+members_of s = map bits s.items
 
--- s holds the assemblies of a list of basis rings, and empty sets after them
+-- s holds the assemblies of a list of basis rings
 pub record AssembliesOf (rs : List ℕ) (s : Assemblies) : Type 0 where
-  pub count : s.count ≡ assembly_count rs
-  pub counted : s.count ≤ max_bonds
-  pub members : (a : ℕ) → a < s.count → get_or (members_of s) a 0 ≡ set_of (length rs) (λ i. eqb (get_or (assemblies_of rs) i 0) a)
-  pub blank : (a : ℕ) → s.count ≤ a → get_or (members_of s) a 0 ≡ 0
+  pub count : array_vec_len s ≡ assembly_count rs
+  pub counted : array_vec_len s ≤ max_bonds
+  pub members : (a : ℕ) → a < array_vec_len s → get_or (members_of s) a 0 ≡ set_of (length rs) (λ i. eqb (get_or (assemblies_of rs) i 0) a)

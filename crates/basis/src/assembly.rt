@@ -5,22 +5,18 @@ ghost use Rattle.sets.specs.Bits.{has};
 ghost use Rattle.sets.specs.Bond.{bits as bond_bits};
 ghost use Rattle.sets.specs.Ring.{bits as ring_bits};
 ghost use Rattle.sets.specs.Lists.{sets_in};
-ghost use Rattle.definitions.specs.Table.{max_bonds};
 ghost use Rattle.definitions.specs.Assembly.{assemblies_of};
 ghost use Rattle.definitions.specs.Answer.{over};
 ghost use Rattle.basis.specs.Held.{members_of, AssembliesOf};
 ghost use Rattle.basis.specs.Clusters.{group_of, joined_by, Grouped, Apart, Pass, Numbered};
 
 use answers::{BASIS_WORDS, MAX_BONDS};
+use arrayvec::ArrayVec;
 use sets::list::{sets_in, sets_up_to};
-use sets::{BondSet, RingSet};
+use sets::{BondSet, RingSet, WORDS, WordSet};
 
-// The assemblies in order, each as the set of its basis rings: the first count sets.
-#[derive(Clone, Copy)]
-pub struct Assemblies {
-    pub members: [RingSet; MAX_BONDS],
-    pub count: usize,
-}
+// The assemblies in order, each as the set of its basis rings.
+pub type Assemblies = ArrayVec<RingSet, MAX_BONDS>;
 
 // An assembly that grows: its basis rings, their bonds, and the rings that are left.
 #[derive(Clone, Copy)]
@@ -47,61 +43,59 @@ impl Cluster {
     }
 
     // One pass over the rings left.
-    fn passed(self, rings: &[u64; BASIS_WORDS], count: usize) -> Cluster
-        requires { (count ≤ max_bonds) × ((i : ℕ) → has (ring_bits self.left) i ≡ true → i < count) }
-        ensures { Pass (take count (sets_in rings.now)) (group_of self) (group_of result) }
+    fn passed(self, rings: &[u64]) -> Cluster
+        requires { (i : ℕ) → has (ring_bits self.left) i ≡ true → i < length (sets_in rings.now) }
+        ensures { Pass (sets_in rings.now) (group_of self) (group_of result) }
     {
         let mut cluster = self;
-        let mut i = cluster.left.next(0);
-        while i < count {
+        for i in self.left {
             cluster = cluster.joined(i, BondSet::at(rings, i));
-            i = cluster.left.next(i + 1);
         }
         cluster
     }
 }
 
-// The cluster of a ring, collected from the rings left.
-fn cluster_of(rings: &[u64; BASIS_WORDS], count: usize, first: usize, left: RingSet) -> Cluster
-    requires { (count ≤ max_bonds) × (has (ring_bits left) first ≡ true) × ((i : ℕ) → has (ring_bits left) i ≡ true → i < count) }
-    ensures { Grouped (take count (sets_in rings.now)) first (ring_bits left) (group_of result) × Apart (take count (sets_in rings.now)) (group_of result) }
+// The cluster of a ring, collected from the rings left by passes until one adds none.
+fn cluster_of(rings: &[u64], first: usize, left: RingSet) -> Cluster
+    requires first { has (ring_bits left) first ≡ true }
+    requires inside { (i : ℕ) → has (ring_bits left) i ≡ true → i < length (sets_in rings.now) }
+    ensures grouped { Grouped (sets_in rings.now) first (ring_bits left) (group_of result) }
+    ensures apart { Apart (sets_in rings.now) (group_of result) }
 {
     let mut cluster = Cluster {
         members: RingSet::only(first),
         bonds: BondSet::at(rings, first),
         left: left.without(first),
     };
-    let mut grew = true;
-    while grew {
+    loop {
         let before = cluster.left.size();
-        cluster = cluster.passed(rings, count);
-        grew = cluster.left.size() < before;
+        cluster = cluster.passed(rings);
+        if cluster.left.size() == before {
+            return cluster;
+        }
     }
-    cluster
+}
+
+// The first count sets of a list, or all of them where it has no more.
+fn first_sets(list: &[u64], count: usize) -> &[u64]
+    ensures { sets_in result.now ≡ take count (sets_in list.now) }
+{
+    &list[..sets_up_to(list, count) * WORDS]
 }
 
 // The assemblies of the first basis rings of a list, or of all of them where a list has no more.
 pub fn assemblies_of(rings: &[u64; BASIS_WORDS], count: usize) -> Assemblies
     ensures { AssembliesOf (take count (sets_in rings.now)) result }
 {
-    let places = sets_in(rings);
-    let known = sets_up_to(rings, count);
-    let mut members = [RingSet::EMPTY; MAX_BONDS];
-    let mut assemblies: usize = 0;
-    let mut left = RingSet::below(known);
-    let mut first = left.next(0);
-    while first < places {
-        let cluster = cluster_of(rings, known, first, left);
-        let found = cluster.members;
-        members[assemblies] = found;
-        assemblies += 1;
+    let known = first_sets(rings, count);
+    let mut found = Assemblies::new();
+    let mut left = RingSet::below(sets_in(known));
+    while let Some(first) = left.into_iter().next() {
+        let cluster = cluster_of(known, first, left);
+        found.push(cluster.members);
         left = cluster.left;
-        first = left.next(0);
     }
-    Assemblies {
-        members,
-        count: assemblies,
-    }
+    found
 }
 
 // Writes the number of an assembly at the place of each of its basis rings.
@@ -109,21 +103,17 @@ fn number_members(members: RingSet, a: u8, out: &mut [u8])
     requires { (i : ℕ) → has (ring_bits members) i ≡ true → i < length out.old }
     ensures { Numbered (has (ring_bits members)) (λ i. a) out.old out.new }
 {
-    let mut i = members.next(0);
-    while i <= RingSet::LAST {
+    for i in members {
         out[i] = a;
-        i = members.next(i + 1);
     }
 }
 
 // Writes the assembly of each basis ring over the start of a list.
-pub(crate) fn write_assemblies(found: Assemblies, out: &mut [u8])
-    requires { (found.count ≤ max_bonds) × ((a i : ℕ) → has (get_or (members_of found) a 0) i ≡ true → i < length out.old) }
-    ensures { (rs : List ℕ) → length rs ≤ length out.old → AssembliesOf rs found → out.new ≡ over (assemblies_of rs) out.old }
+pub(crate) fn write_assemblies(found: &Assemblies, out: &mut [u8])
+    requires { (a i : ℕ) → has (get_or (members_of found.now) a 0) i ≡ true → i < length out.old }
+    ensures { (rs : List ℕ) → length rs ≤ length out.old → AssembliesOf rs found.now → out.new ≡ over (assemblies_of rs) out.old }
 {
-    let mut a: usize = 0;
-    while a < found.count {
-        number_members(found.members[a], a as u8, out);
-        a += 1;
+    for (a, members) in found.iter().enumerate() {
+        number_members(*members, a as u8, out);
     }
 }

@@ -1,13 +1,14 @@
 // The fragments of the bonds tried so far. Each atom leads to itself or to a lower atom of its fragment, at last to the first of all,
 // and has the set of bonds of a way there: in a sum of ways the bonds gone over twice fall out.
-ghost use Rattle.std.specs.Prelude.{◌≡◌, ℕ, ◌≤◌, ◌<◌, min, max, get_or, set};
+ghost use Rattle.std.specs.Prelude.{◌≡◌, ℕ, ◌≤◌, ◌<◌, min, max, get_or, replicate, set};
 ghost use Rattle.sets.specs.Bond.{bits};
 ghost use Rattle.sets.specs.Lists.{sets_in};
 ghost use Rattle.definitions.specs.Table.{max_atoms};
 ghost use Rattle.basis.specs.Climbing.{Falling, Climbs};
 
 use answers::{ATOM_WORDS, MAX_ATOMS};
-use sets::BondSet;
+use sets::{BondSet, WordSet};
+use std::array;
 
 // Where an atom leads at last, and the sum of the ways.
 #[derive(Clone, Copy)]
@@ -16,64 +17,58 @@ pub(crate) struct Climb {
     pub bonds: BondSet,
 }
 
-// Each atom leads to itself.
-pub(crate) fn apart(atoms: usize) -> [usize; MAX_ATOMS]
-    requires { atoms ≤ max_atoms }
-    ensures { Falling result × ((a : ℕ) → a < atoms → get_or result a 0 ≡ a) }
-{
-    let mut lower = [0usize; MAX_ATOMS];
-    let mut a: usize = 0;
-    while a < atoms {
-        lower[a] = a;
-        a += 1;
+// Where each atom leads, and the way there.
+#[derive(Drop)]
+pub(crate) struct Fragments {
+    pub lower: [usize; MAX_ATOMS],
+    pub ways: [u64; ATOM_WORDS],
+    ghost falling: { Falling lower },
+}
+
+impl Fragments {
+    // Each atom leads to itself, by no bond.
+    pub fn apart() -> Fragments
+        ensures own { (a : ℕ) → a < max_atoms → get_or result.lower a 0 ≡ a }
+        ensures ways { sets_in result.ways ≡ replicate max_atoms 0 }
+    {
+        Fragments {
+            lower: array::from_fn(|a| a),
+            ways: [0; ATOM_WORDS],
+        }
     }
-    lower
-}
 
-// From an atom to the first atom of its fragment.
-pub(crate) fn climb_from(lower: &[usize; MAX_ATOMS], ways: &[u64; ATOM_WORDS], atom: usize) -> Climb
-    requires { Falling lower.now × (atom < max_atoms) }
-    ensures { Climbs lower.now (sets_in ways.now) atom result.atom (bits result.bonds) }
-{
-    let mut a = atom;
-    let mut bonds = BondSet::EMPTY;
-    while lower[a] < a {
-        bonds = bonds.sum(BondSet::at(ways, a));
-        a = lower[a];
+    // From an atom to the first atom of its fragment.
+    pub fn climb_from(&self, atom: usize) -> Climb
+        requires { atom < max_atoms }
+        ensures { Climbs self.now.lower (sets_in self.now.ways) atom result.atom (bits result.bonds) }
+    {
+        let mut a = atom;
+        let mut bonds = BondSet::EMPTY;
+        while self.lower[a] < a {
+            bonds = bonds.sum(BondSet::at(&self.ways, a));
+            a = self.lower[a];
+        }
+        Climb { atom: a, bonds }
     }
-    Climb { atom: a, bonds }
-}
 
-// An atom leads straight to where the climb from it came, so that the next climb from there is short.
-pub(crate) fn settle(
-    lower: &mut [usize; MAX_ATOMS],
-    ways: &mut [u64; ATOM_WORDS],
-    atom: usize,
-    climb: Climb,
-)
-    requires { atom < max_atoms }
-    ensures { (lower.new ≡ set lower.old atom climb.atom) × (sets_in ways.new ≡ set (sets_in ways.old) atom (bits climb.bonds)) }
-{
-    lower[atom] = climb.atom;
-    climb.bonds.put_at(ways, atom);
-}
+    // An atom leads straight to where the climb from it came, so that the next climb from there is short.
+    pub fn settle(&mut self, atom: usize, climb: Climb)
+        requires { (climb.atom ≤ atom) × (atom < max_atoms) }
+        ensures lower { self.new.lower ≡ set self.old.lower atom climb.atom }
+        ensures ways { sets_in self.new.ways ≡ set (sets_in self.old.ways) atom (bits climb.bonds) }
+    {
+        self.lower[atom] = climb.atom;
+        climb.bonds.put_at(&mut self.ways, atom);
+    }
 
-// Two fragments made one, given by their first atoms: the larger leads to the smaller by these bonds.
-pub(crate) fn join(
-    lower: &mut [usize; MAX_ATOMS],
-    ways: &mut [u64; ATOM_WORDS],
-    a: usize,
-    b: usize,
-    bonds: BondSet,
-)
-    requires { (a < max_atoms) × (b < max_atoms) }
-    ensures { (lower.new ≡ set lower.old (max a b) (min a b)) × (sets_in ways.new ≡ set (sets_in ways.old) (max a b) (bits bonds)) }
-{
-    if a < b {
-        lower[b] = a;
-        bonds.put_at(ways, b);
-    } else {
-        lower[a] = b;
-        bonds.put_at(ways, a);
+    // Two fragments made one, given by their first atoms: the larger leads to the smaller by these bonds.
+    pub fn join(&mut self, a: usize, b: usize, bonds: BondSet)
+        requires { (a < max_atoms) × (b < max_atoms) }
+        ensures lower { self.new.lower ≡ set self.old.lower (max a b) (min a b) }
+        ensures ways { sets_in self.new.ways ≡ set (sets_in self.old.ways) (max a b) (bits bonds) }
+    {
+        let low = a.min(b);
+        let high = a.max(b);
+        self.settle(high, Climb { atom: low, bonds });
     }
 }

@@ -27,12 +27,11 @@ pub record Stepped (taken : List ℕ) (n ring : ℕ) (kept' taken' : List ℕ) (
 abbrev pub Spanned : ℕ → List ℕ → Type 0
 Spanned n l = (vs : List ℕ) × (length vs ≡ n) × ((x : ℕ) → In x l → SumOf vs x)
 
--- the first n sets of a list are sums of as many sets as are wanted, and there is room to take so many
-pub record Choosable (found : List ℕ) (n want : ℕ) (taken : List ℕ) : Type 0 where
-  pub within : n ≤ length found
+-- the sets of a list are sums of as many sets as are wanted, and there is room to take so many
+pub record Choosable (found : List ℕ) (want : ℕ) (taken : List ℕ) : Type 0 where
   pub lent : length taken ≡ room
   pub few : want ≤ room
-  pub spanned : Spanned want (take n found)
+  pub spanned : Spanned want found
 
 -- the first r sets of one list are what is taken of another, and the rest is as it was
 pub record Selected (l start taken : List ℕ) (r : ℕ) : Type 0 where

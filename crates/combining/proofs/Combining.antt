@@ -1,39 +1,34 @@
 -- The group of a basis ring: it is made of the old sets one by one, and each of its sums is tested against the rings found before it.
 -- Assumes nothing.
-use mathlib.Core.Path.{◌≡◌, refl, sym, ap, ap₂, subst, ◌∙◌}
+use mathlib.Core.Path.{◌≡◌, refl, sym, ap, ap₂, ◌∙◌}
 use mathlib.Core.Logic.{◌↔◌, ⊎_elim}
-use mathlib.Core.Bool.{Bool, true, false, not, ◌||◌}
-use mathlib.Core.List.Memᴰ.{not-nil as not-in-nil}
-use mathlib.Core.List.{List, [], ◌∷◌, ◌++◌, append_assoc, append-nil, map-append, Memᴰ as In}
-use Prim.Native.Nat.{ℕ, suc, ◌+◌, ◌<◌, ◌≤◌}
+use mathlib.Core.Bool.{Bool, true, false, not, ◌||◌, ◌&&◌}
+use mathlib.Core.List.Memᴰ
+use mathlib.Core.List.Memᴰ.{append_cases as in-append}
+use mathlib.Core.List.{List, [], ◌∷◌, ◌++◌, append_assoc, map-append, Memᴰ as In}
+use Prim.Native.Nat.{ℕ, suc, ◌+◌, ◌-◌, ◌*◌, ◌%◌, ◌<◌, ◌≤◌}
 use native.Mathlib.Numerals.{add-one}
-use native.Mathlib.Nat.{le_antisymm}
 use native.Mathlib.Omega.{arith}
-use lib.ListN.{length, take, get_or, set, length-set, get_or-append}
-use lib.Seq.{take-suc, take-suc-set, get_or-take, length-take-le}
+use lib.ListN.{length, take, drop, length-append, length-drop, get_or, set, length-set, get_or-append}
+use lib.Seq.{drop_at, drop-drop, take-suc, take-suc-set, get_or-take, length-take-le}
 use lib.Bits.{bit_xor}
 use borrow.Author.Tests.{not-true}
 use Rattle.sets.specs.Bits.{Sub, sub}
+use Rattle.sets.specs.Lists.{sets_in, words}
+use Rattle.sets.proofs.Lists.{sets-whole, sets-append, sets-length, words_are}
 use Rattle.sets.proofs.Size.{sub_test, test_sub}
-use Rattle.definitions.proofs.Tests.{not_passed, clashes, every-at, every_of, by, or-one, or_neither}
-use Rattle.definitions.proofs.Lists.{get_or_in, in_get_or, in_snoc}
-use Rattle.lent.specs.Appended.{between}
-use Rattle.lent.proofs.Between.{between_none, between-one, between_split, between_in}
-use Rattle.combining.specs.Gibbs.{group, clear?, Doubled}
+use Rattle.definitions.specs.Search.{every}
+use Rattle.definitions.proofs.Tests.{and_both, not_passed, clashes, every-at, every_of, by}
+use Rattle.definitions.proofs.Lists.{get_or_in, in_get_or}
+use Rattle.combining.specs.Gibbs.{group, clear?}
 
 -- ---- the group is made: the old sets below place j are summed with the ring
 
 -- the old sets, followed by the sums of the first j of them
 pub record Doubling (start : List ℕ) (half ring : ℕ) (sums : List ℕ) (j : ℕ) : Type 0 where
-  pub within : j ≤ half
   pub few : half + half ≤ length start
   pub long : length sums ≡ length start
   pub list : take (half + j) sums ≡ take half start ++ group ring (take j start)
-
--- before the first turn
-pub doubling_none : (start : List ℕ) (half ring : ℕ) → half + half ≤ length start → Doubling start half ring start 0
-doubling_none start half ring f =
-    record { within = omega arith; few = f; long = refl; list = ap (λ k. take k start) {x = half + 0} {y = half} (omega arith) ∙ sym (append-nil (take half start)) }
 
 module _ {start : List ℕ} {half ring : ℕ} {sums : List ℕ} {j : ℕ} (s : Doubling start half ring sums j) where
   -- an old set is where it was
@@ -47,7 +42,6 @@ module _ {start : List ℕ} {half ring : ℕ} {sums : List ℕ} {j : ℕ} (s : D
   -- one turn
   pub doubling_more : {w x : ℕ} {end : List ℕ} → j < half → w ≡ get_or sums j 0 → x ≡ bit_xor ring w → end ≡ set sums (half + j) x → Doubling start half ring end (j + 1)
   doubling_more {w} {x} {end} h e q put = record {
-    within = omega arith;
     few = s.few;
     long = ap length put ∙ length-set sums (half + j) x ∙ s.long;
     list =
@@ -64,10 +58,6 @@ module _ {start : List ℕ} {half ring : ℕ} {sums : List ℕ} {j : ℕ} (s : D
           ∙ sym (map-append (bit_xor ring) (take j start) (get_or start j 0 ∷ []))
           ∙ ap (group ring) (sym (take-suc start j 0 (omega (arith, s.few))) ∙ ap (λ k. take k start) (sym (add-one j)))
 
-  -- after the last turn
-  pub doubling_all : half ≤ j → Doubled start half ring sums
-  doubling_all h = record { long = s.long; list = subst (λ k. take (half + k) sums ≡ take half start ++ group ring (take k start)) (le_antisymm s.within h) s.list }
-
 -- ---- a sum is tested against the rings found
 
 -- the test of a set passes where no set of the list lies inside it
@@ -81,65 +71,94 @@ clear_test found s = (
       ap not (not_passed (sub (get_or found j 0) s) (λ u. h (get_or found j 0) (get_or_in found j 0 l) (test_sub _ s u)))),
 )
 
--- none of the rings from one place up to place i lies inside s
-pub record Tested (found : List ℕ) (from to s i : ℕ) : Type 0 where
-  pub few : to ≤ length found
-  pub after : from ≤ i
-  pub within : i ≤ to
-  pub none : clear? (between from i found) s ≡ true
+-- that of a list is that of its first part and of the rest
+clear_append : (l m : List ℕ) (s : ℕ) → clear? (l ++ m) s ≡ clear? l s && clear? m s
+clear_append l m s =
+    by (clear? l s && clear? m s)
+    (λ q. let (x, y) = and_both (clear? l s) (clear? m s) q in
+    rw q ((clear_test (l ++ m) s).1 (λ t i. ⊎_elim ((clear_test l s).0 x t) ((clear_test m s).0 y t) (in-append l i))))
+    (λ q. rw q (not_passed (clear? (l ++ m) s) (λ c.
+    let x = (clear_test l s).1 (λ t i. (clear_test (l ++ m) s).0 c t (Memᴰ.append_left m i)) in
+    let y = (clear_test m s).1 (λ t i. (clear_test (l ++ m) s).0 c t (Memᴰ.append_right l i)) in
+    clashes (ap₂ (λ a b. a && b) x y) q)))
 
--- none is looked at yet
-pub tested_none : {found : List ℕ} {from to : ℕ} (s : ℕ) → (from ≤ to) × (to ≤ length found) → Tested found from to s from
-tested_none {found} {from} s f = record {
-  few = f.1;
-  after = omega arith;
-  within = f.0;
-  none = (clear_test (between from from found) s).1 (λ t i. absurd (not-in-nil (rw (between_none from found) at i)));
-}
+-- that of no ring passes
+clear_none : (l : List ℕ) (s : ℕ) → length l ≡ 0 → clear? l s ≡ true
+unfolding clear? every
+clear_none [] s e = refl
+clear_none (x ∷ l) s e = absurd (omega arith)
 
-module _ {found : List ℕ} {from to s i : ℕ} (u : Tested found from to s i) where
-  -- the next ring does not lie inside s
-  one_more : {w : ℕ} {r : Bool} → i < to → w ≡ get_or found i 0 → r ≡ sub w s → r ≡ false → Tested found from to s (i + 1)
-  one_more {w} h e t q = record {
-    few = u.few;
-    after = omega (arith, u.after);
-    within = omega arith;
-    none =
-        (clear_test (between from (i + 1) found) s).1
-        (λ x m. ⊎_elim ((clear_test (between from i found) s).0 u.none x)
-        (λ z inside. clashes (sub_test x s inside) (ap (λ y. sub y s) (z ∙ sym e) ∙ sym t ∙ q))
-        (in_snoc (between from i found) (rw (sym next) at m)));
-  }
-    where
-      next : between from i found ++ get_or found i 0 ∷ [] ≡ between from (i + 1) found
-      next =
-          ap (λ l. between from i found ++ l) (sym (between-one i found (omega (arith, u.few))))
-          ∙ between_split from i (i + 1) found u.after (omega arith) (omega (arith, u.few))
+-- that of one ring is whether it does not lie inside s
+clear_one : (l : List ℕ) (s : ℕ) {w : ℕ} {r : Bool} → length l ≡ 1 → w ≡ get_or l 0 0 → r ≡ sub w s → clear? l s ≡ not r
+unfolding clear? every
+clear_one [] s e is t = absurd (omega arith)
+clear_one (x ∷ []) s e is t = rw (t, is) (settled (not (sub x s)))
+  where
+    settled : (b : Bool) → elim b [ true ↦ true | false ↦ false ] ≡ b
+    settled true = refl
+    settled false = refl
+clear_one (x ∷ y ∷ l) s e is t = absurd (omega arith)
 
-  -- a ring from there on lies inside s
-  broken : {j w : ℕ} {r : Bool} → i ≤ j → j < to → w ≡ get_or found j 0 → r ≡ sub w s → r ≡ true → false ≡ clear? (between from to found) s
-  broken {j} b h e t q =
-      sym (not_passed (clear? (between from to found) s) (λ c.
-      (clear_test (between from to found) s).0 c (get_or found j 0) (between_in from j to found (omega (arith, u.after)) h u.few) (test_sub _ s (ap (λ y. sub y s) (sym e) ∙ sym t ∙ q))))
+-- that of two is whether neither does
+clear_pair : (l : List ℕ) (s : ℕ) {w w' : ℕ} {r r' : Bool} → length l ≡ 2 → w ≡ get_or l 0 0 → w' ≡ get_or l 1 0 → r ≡ sub w s → r' ≡ sub w' s
+    → clear? l s ≡ not (r || r')
+clear_pair [] s e i j t u = absurd (omega arith)
+clear_pair (x ∷ []) s e i j t u = absurd (omega arith)
+clear_pair (x ∷ y ∷ []) s {r = r} {r' = r'} e i j t u =
+    clear_append (x ∷ []) (y ∷ []) s ∙ ap₂ (λ a b. a && b) (clear_one (x ∷ []) s refl i t) (clear_one (y ∷ []) s refl j u) ∙ neither r r'
+  where
+    neither : (a b : Bool) → not a && not b ≡ not (a || b)
+    neither true b = refl
+    neither false b = refl
+clear_pair (x ∷ y ∷ z ∷ l) s e i j t u = absurd (omega arith)
 
-  -- none does
-  pub tested_all : to ≤ i → true ≡ clear? (between from to found) s
-  tested_all h = subst (λ k. true ≡ clear? (between from k found) s) (le_antisymm u.within h) (sym u.none)
+-- the words that are left of a list, from which two sets are taken in a turn: its sets decide, and their end is the last words of the list
+pub record Left (ws : List ℕ) (s size : ℕ) (rest last : List ℕ) : Type 0 where
+  pub two : size ≡ 2 * words
+  pub same : clear? (sets_in rest) s ≡ clear? (sets_in ws) s
+  pub end : last ≡ drop (length rest - length rest % (2 * words)) rest
 
--- the next two rings, and whether they lie inside s
-module _ {found : List ℕ} {from to s i : ℕ} (u : Tested found from to s i) {w w' : ℕ} {r r' : Bool}
-    (h : i + 1 < to) (e : w ≡ get_or found i 0) (e' : w' ≡ get_or found (i + 1) 0) (t : r ≡ sub w s) (t' : r' ≡ sub w' s) where
-  -- one turn: neither does
-  pub tested_more : r || r' ≡ false → Tested found from to s (i + 2)
-  tested_more q =
-      let (x, y) = or_neither r r' q in
-      subst (Tested found from to s) (omega arith) (one_more (one_more u (omega arith) e t x) h e' t' y)
+module _ {ws : List ℕ} {s size : ℕ} {rest last : List ℕ} (h : Left ws s size rest last) where
+  module _ (pair rest' : List ℕ) (e : rest ≡ pair ++ rest') (long : length pair ≡ size) where
+    -- the pair has two sets
+    pub pair_two : length (sets_in pair) ≡ 2
+    pair_two = sets-whole 2 pair (long ∙ h.two)
 
-  -- one of them does
-  pub tested_broken : r || r' ≡ true → false ≡ clear? (between from to found) s
-  tested_broken q = ⊎_elim (broken u (omega arith) (omega arith) e t) (broken u (omega arith) h e' t') (or-one r r' q)
+    module _ {w w' : ℕ} {r r' : Bool} (i : w ≡ get_or (sets_in pair) 0 0) (j : w' ≡ get_or (sets_in pair) 1 0) (t : r ≡ sub w s) (u : r' ≡ sub w' s) where
+      parts : clear? (sets_in ws) s ≡ not (r || r') && clear? (sets_in rest') s
+      parts =
+          sym h.same
+          ∙ ap (λ l. clear? l s) (ap sets_in e ∙ sets-append 2 pair rest' (long ∙ h.two ∙ sym (words_are 2)))
+          ∙ clear_append (sets_in pair) (sets_in rest') s
+          ∙ ap (λ b. b && clear? (sets_in rest') s) (clear_pair (sets_in pair) s pair_two i j t u)
 
--- the last ring decides
-pub tested_last : {found : List ℕ} {from to s i w : ℕ} {r : Bool} → Tested found from to s i → i < to → to ≤ i + 1 → w ≡ get_or found i 0 → r ≡ sub w s
-    → not r ≡ clear? (between from to found) s
-tested_last {r = r} u h l e t = by r (λ q. rw q (broken u (omega arith) h e t q)) (λ q. rw q (tested_all (one_more u h e t q) l))
+      -- one of them lies inside s
+      pub left_broken : r || r' ≡ true → false ≡ clear? (sets_in ws) s
+      left_broken q = sym (rw q at parts)
+
+      -- neither does
+      pub left_more : {size' : ℕ} → r || r' ≡ false → size' ≡ size → Left ws s size' rest' last
+      left_more q a = rw a (record {
+        two = h.two;
+        same = sym (rw q at parts);
+        end = h.end ∙ ap (λ l. drop (length l - length l % (2 * words)) l) e ∙ ap (λ k. drop k (pair ++ rest')) back ∙ sym (drop-drop (length rest' - length rest' % (2 * words)) (length pair) (pair ++ rest')) ∙ ap (drop (length rest' - length rest' % (2 * words))) (drop_at pair rest' (length pair) refl);
+      })
+        where
+          back : length (pair ++ rest') - length (pair ++ rest') % (2 * words) ≡ length pair + (length rest' - length rest' % (2 * words))
+          back = omega (arith, length-append pair rest', h.two, long)
+
+  -- at the end the last words are left
+  module _ (few : length rest < size) where
+    left_last : clear? (sets_in last) s ≡ clear? (sets_in ws) s
+    left_last = ap (λ l. clear? (sets_in l) s) (h.end ∙ ap (λ k. drop k rest) (let z : length rest - length rest % (2 * words) ≡ 0 = omega (arith, h.two) in z)) ∙ h.same
+
+    one_at_most : length (sets_in last) ≤ 1
+    one_at_most = omega (arith, sets-length last, ap length h.end, length-drop (length rest - length rest % (2 * words)) rest, h.two)
+
+    -- which have one set
+    pub left_one : {w : ℕ} {r : Bool} → 0 < length (sets_in last) → w ≡ get_or (sets_in last) 0 0 → r ≡ sub w s → not r ≡ clear? (sets_in ws) s
+    left_one some i t = sym (clear_one (sets_in last) s (omega (arith, one_at_most)) i t) ∙ left_last
+
+    -- or none
+    pub left_all : length (sets_in last) ≤ 0 → true ≡ clear? (sets_in ws) s
+    left_all none = sym (clear_none (sets_in last) s (omega arith)) ∙ left_last

@@ -1,6 +1,6 @@
 -- The basis rings of an assembly in turn: each doubles the sums, and the rings of its group follow those found. Assumes nothing.
 use mathlib.Core.Path.{◌≡◌, refl, sym, ap, ap₂, ◌∙◌}
-use mathlib.Core.List.{List, [], ◌∷◌, ◌++◌, append_assoc, append-nil}
+use mathlib.Core.List.{List, [], ◌∷◌, ◌++◌, map, append_assoc, append-nil}
 use Prim.Native.Nat.{ℕ, suc, ◌+◌, ◌-◌, ◌*◌, ◌^◌, ◌<◌, ◌≤◌}
 use native.Mathlib.Numerals.{add-one}
 use native.Mathlib.Nat.{two-pow-succ, add-mul, mul-add}
@@ -10,13 +10,15 @@ use lib.Seq.{take-suc-set, drop_at, length-take-le}
 use lib.Bits.{bit_xor}
 use lib.Pow.{pow_mono, pow_pos}
 use lib.Dec.{ltb}
-use Rattle.sets.specs.Bits.{has, size, IsNext}
+use Rattle.sets.specs.Bits.{has, size}
 use Rattle.sets.specs.Ring.{room}
+use Rattle.sets.specs.Rising.{rising}
 use Rattle.sets.proofs.Size.{size-sub}
+use Rattle.sets.proofs.Upward.{Turn}
 use Rattle.definitions.specs.Search.{count, set_of, listed, picked}
 use Rattle.definitions.proofs.Tests.{and_both}
 use Rattle.definitions.proofs.Lists.{listed-take, length-listed, has-set_of, size-set_of, length-keep}
-use Rattle.definitions.proofs.Passing.{Passed, passed_next, passed_first, passed_more, passed_all}
+use Rattle.definitions.proofs.Over.{listed_rising, map_more, turn_listed}
 use Rattle.cycles.proofs.Sums.{take-listed}
 use Rattle.lent.specs.Appended.{between, Room, Appended}
 use Rattle.lent.proofs.Appending.{appended_none, appended_as, appended_more}
@@ -101,49 +103,40 @@ picked-few rings s = omega (arith, length-listed room (has s) (λ i. get_or ring
 pub found-few : (rings : List ℕ) (s : ℕ) → length (combined (picked rings s)) < 2 ^ size s
 found-few rings s = omega (arith, combined-few (picked rings s), pow_mono (picked-few rings s), pow_pos (size s))
 
--- ---- the loop: the basis rings below place i are combined
+-- ---- the loop: the basis rings at the places taken so far are combined
 
 -- the basis ring at a place
 abbrev ring_at : List ℕ → ℕ → ℕ
 ring_at rings k = get_or rings k 0
 
--- the basis rings that a set of places has below place i
-abbrev upto : List ℕ → ℕ → ℕ → List ℕ
-upto rings s i = listed i (has s) (ring_at rings)
-
 -- their sums are the first half sets of a list, and what is found of them follows the first n of another, which are then the first r
-pub record Turned (rings : List ℕ) (s : ℕ) (start : List ℕ) (n : ℕ) (sums : List ℕ) (half : ℕ) (found : List ℕ) (r i : ℕ) : Type 0 where
+pub record Turned (rings : List ℕ) (s : ℕ) (start : List ℕ) (n : ℕ) (sums : List ℕ) (half : ℕ) (found : List ℕ) (r : ℕ) (xs : List ℕ) : Type 0 where
   pub small : 2 ^ size s ≤ length sums
   pub lent : Room (combined (picked rings s)) start n
-  pub passed : Passed room s i
-  pub power : half ≡ 2 ^ length (upto rings s i)
-  pub list : take half sums ≡ sums_from (0 ∷ []) (upto rings s i)
-  pub appended : Appended start n (combined (upto rings s i)) found r
+  pub power : half ≡ 2 ^ length (map (ring_at rings) xs)
+  pub list : take half sums ≡ sums_from (0 ∷ []) (map (ring_at rings) xs)
+  pub appended : Appended start n (combined (map (ring_at rings) xs)) found r
 
 -- before the first basis ring the empty set is the only sum
-pub turned_none : {s : ℕ} {start : List ℕ} {n i x : ℕ} (rings sums : List ℕ) {put : List ℕ} → 2 ^ size s ≤ length sums → Room (combined (picked rings s)) start n
-    → x ≡ 0 → put ≡ set sums 0 x → IsNext room s 0 i → Turned rings s start n put 1 start n i
+pub turned_none : {s : ℕ} {start : List ℕ} {n x : ℕ} (rings sums : List ℕ) {put : List ℕ} → 2 ^ size s ≤ length sums → Room (combined (picked rings s)) start n
+    → x ≡ 0 → put ≡ set sums 0 x → Turned rings s start n put 1 start n []
 unfolding sums_from rings_from
-turned_none {s} {start} {n} {i} {x} rings sums {put} m o z e next =
+turned_none {s} {start} {n} {x} rings sums {put} m o z e =
     record {
       small = omega (arith, ap length e, length-set sums 0 x);
       lent = o;
-      passed = passed_next next;
-      power = ap (λ l. 2 ^ length l) (sym none);
-      list = ap (take 1) e ∙ take-suc-set sums 0 x (omega (arith, pow_pos (size s))) ∙ ap (λ y. y ∷ []) z ∙ ap (sums_from (0 ∷ [])) (sym none);
-      appended = appended_as (ap combined (sym none)) (appended_none start n);
+      power = refl;
+      list = ap (take 1) e ∙ take-suc-set sums 0 x (omega (arith, pow_pos (size s))) ∙ ap (λ y. y ∷ []) z;
+      appended = appended_none start n;
     }
-  where
-    none : upto rings s i ≡ []
-    none = passed_first (ring_at rings) next
 
-module _ {rings : List ℕ} {s : ℕ} {start : List ℕ} {n : ℕ} {sums : List ℕ} {half : ℕ} {found : List ℕ} {r i : ℕ}
-    (t : Turned rings s start n sums half found r i) where
+module _ {rings : List ℕ} {s : ℕ} {start : List ℕ} {n : ℕ} {sums : List ℕ} {half : ℕ} {found : List ℕ} {r : ℕ} {xs : List ℕ}
+    (t : Turned rings s start n sums half found r xs) where
   -- the basis rings so far
   abbrev before : List ℕ
-  before = upto rings s i
+  before = map (ring_at rings) xs
 
-  module _ (h : i < room) where
+  module _ {i : ℕ} (h : Turn room s xs i) where
     -- those after the next
     abbrev after : List ℕ
     after = drop (count (i + 1) (has s)) (picked rings s)
@@ -151,8 +144,13 @@ module _ {rings : List ℕ} {s : ℕ} {start : List ℕ} {n : ℕ} {sums : List 
     -- they follow those so far and the next
     parted : (before ++ ring_at rings i ∷ []) ++ after ≡ picked rings s
     parted =
-        ap (λ l. l ++ after) (sym (listed-take (has s) (ring_at rings) i refl (t.passed.member h)) ∙ sym (take-listed (i + 1) room (has s) (ring_at rings) (omega arith)))
+        ap (λ l. l ++ after) (so_far ∙ sym (take-listed (i + 1) room (has s) (ring_at rings) (omega (arith, h.below))))
         ∙ take-append-drop (count (i + 1) (has s)) (picked rings s)
+      where
+        so_far : before ++ ring_at rings i ∷ [] ≡ listed (i + 1) (has s) (ring_at rings)
+        so_far =
+            ap (λ l. l ++ ring_at rings i ∷ []) (turn_listed (ring_at rings) h)
+            ∙ sym (listed-take (has s) (ring_at rings) i refl h.member)
 
     -- there is room for the group
     pub turned_few : half + half ≤ length sums
@@ -172,59 +170,60 @@ module _ {rings : List ℕ} {s : ℕ} {start : List ℕ} {n : ℕ} {sums : List 
         )
 
     module _ {sums' : List ℕ} {ring : ℕ} (is : ring ≡ get_or rings i 0) (made : Doubled sums half ring sums') where
-      -- the rings that are found in its group
-      abbrev new : List ℕ
-      new = rings_among (between n r found) (between half (half + half) sums')
-
-      -- it is there
+      -- the group is there
       pub turned_held : half + half ≤ length sums'
       turned_held = omega (arith, turned_few, made.long)
 
-      -- the group stands after the old sets
+      -- and stands after the old sets
       its_group : between half (half + half) sums' ≡ group (ring_at rings i) (sums_from (0 ∷ []) before)
       its_group =
           ap (drop half) made.list
           ∙ drop_at (take half sums) (group ring (take half sums)) half (length-take-le half sums (omega (arith, turned_few)))
           ∙ ap₂ group is t.list
 
-      -- what is found with it
-      found-with : combined before ++ new ≡ combined (before ++ ring_at rings i ∷ [])
-      found-with =
-          ap₂ (λ l g. combined before ++ rings_among l g) (appended_new (omega (arith, t.lent)) t.appended) its_group
-          ∙ sym (rings_snoc (0 ∷ []) [] before (ring_at rings i))
+      module _ {olds sum : List ℕ} (found_before : olds ≡ between n r found) (part : sum ≡ between half (half + half) sums') where
+        -- the rings that are found in it
+        abbrev new : List ℕ
+        new = rings_among olds sum
 
-      -- there is room for what is found in it
-      pub turned_room : Room new found r
-      turned_room =
-          let with = before ++ ring_at rings i ∷ [] in
-          appended_room new (combined (picked rings s)) t.appended t.lent
-          (omega (
-            arith,
-            ap length found-with,
-            length-append (combined before) new,
-            ap (λ l. length (combined l)) parted,
-            ap length (rings-append (0 ∷ []) [] with after),
-            length-append (combined with) (rings_from (sums_from (0 ∷ []) with) (combined with) after),
-          ))
+        -- what is found with it
+        found-with : combined before ++ new ≡ combined (before ++ ring_at rings i ∷ [])
+        found-with =
+            ap₂ (λ l g. combined before ++ rings_among l g) (found_before ∙ appended_new (omega (arith, t.lent)) t.appended) (part ∙ its_group)
+            ∙ sym (rings_snoc (0 ∷ []) [] before (ring_at rings i))
 
-      -- the next basis ring
-      pub turned_more : {end : List ℕ} {r' q : ℕ} → Appended found r new end r' → IsNext room s (i + 1) q → Turned rings s start n sums' (half + half) end r' q
-      turned_more {end} {r'} {q} a next =
-          record {
-            small = omega (arith, t.small, made.long);
-            lent = t.lent;
-            passed = passed_next next;
-            power =
-                ap₂ ◌+◌ t.power t.power
-                ∙ sym (two-pow-succ (length before))
-                ∙ ap (λ k. 2 ^ k) (sym (ap length more ∙ length-append before (ring_at rings i ∷ []) ∙ add-one (length before)));
-            list = made.list ∙ ap₂ (λ x l. l ++ group x l) is t.list ∙ sym (sums_snoc (0 ∷ []) before (ring_at rings i)) ∙ ap (sums_from (0 ∷ [])) (sym more);
-            appended = appended_as (found-with ∙ ap combined (sym more)) (appended_more (omega (arith, t.lent)) t.appended a);
-          }
-        where
-          more : upto rings s q ≡ before ++ ring_at rings i ∷ []
-          more = passed_more t.passed h next (ring_at rings)
+        -- there is room for what is found in it
+        pub turned_room : Room new found r
+        turned_room =
+            let with = before ++ ring_at rings i ∷ [] in
+            appended_room new (combined (picked rings s)) t.appended t.lent
+            (omega (
+              arith,
+              ap length found-with,
+              length-append (combined before) new,
+              ap (λ l. length (combined l)) parted,
+              ap length (rings-append (0 ∷ []) [] with after),
+              length-append (combined with) (rings_from (sums_from (0 ∷ []) with) (combined with) after),
+            ))
 
-  -- after the last all are combined
-  pub turned_all : room ≤ i → Appended start n (combined (picked rings s)) found r
-  turned_all h = appended_as (ap combined (passed_all (ring_at rings) t.passed h)) t.appended
+        -- the next basis ring
+        pub turned_more : {end : List ℕ} {r' : ℕ} → Appended found r new end r' → Turned rings s start n sums' (half + half) end r' (xs ++ (i ∷ []))
+        turned_more {end} {r'} a =
+            record {
+              small = omega (arith, t.small, made.long);
+              lent = t.lent;
+              power =
+                  ap₂ ◌+◌ t.power t.power
+                  ∙ sym (two-pow-succ (length before))
+                  ∙ ap (λ k. 2 ^ k) (sym (ap length more ∙ length-append before (ring_at rings i ∷ []) ∙ add-one (length before)));
+              list = made.list ∙ ap₂ (λ x l. l ++ group x l) is t.list ∙ sym (sums_snoc (0 ∷ []) before (ring_at rings i)) ∙ ap (sums_from (0 ∷ [])) (sym more);
+              appended = appended_as (found-with ∙ ap combined (sym more)) (appended_more (omega (arith, t.lent)) t.appended a);
+            }
+          where
+            more : map (ring_at rings) (xs ++ (i ∷ [])) ≡ before ++ ring_at rings i ∷ []
+            more = map_more (ring_at rings) xs i
+
+-- after the last basis ring all are combined
+pub turned_all : {rings : List ℕ} {s : ℕ} {start : List ℕ} {n : ℕ} {sums : List ℕ} {half : ℕ} {found : List ℕ} {r : ℕ} {xs : List ℕ}
+    → Turned rings s start n sums half found r xs → xs ≡ rising room s → Appended start n (combined (picked rings s)) found r
+turned_all {rings} {s} t h = appended_as (ap combined (ap (map (ring_at rings)) h ∙ sym (listed_rising (ring_at rings) room s))) t.appended

@@ -3,17 +3,18 @@
 // it, since of two even sets that make up a sum one has not the closure bond of its basis ring, and in that one lies such a ring.
 #![tactic(auto)]
 
-ghost use Rattle.std.specs.Prelude.{◌≡◌, ◌+◌, ◌^◌, ◌<◌, ◌≤◌, length};
+ghost use Rattle.std.specs.Prelude.{◌≡◌, [], ◌∷◌, ◌+◌, ◌^◌, ◌≤◌, length};
 ghost use Rattle.sets.specs.Bits as set;
 ghost use Rattle.sets.specs.Bond.{bits};
 ghost use Rattle.sets.specs.Ring as superset;
 ghost use Rattle.sets.specs.Lists.{sets_in};
 ghost use Rattle.definitions.specs.Search.{picked};
-ghost use Rattle.lent.specs.Appended.{Room, Appended, between};
+ghost use Rattle.lent.specs.Appended.{Room, Appended};
 ghost use Rattle.combining.specs.Gibbs.{clear?, rings_among, combined, Doubled};
 
 use answers::BASIS_WORDS;
-use sets::{BondSet, RingSet};
+use sets::list::sets_in;
+use sets::{BondSet, RingSet, WORDS, WordSet};
 
 // The old sets are followed by the group of a basis ring.
 fn double(sums: &mut [u64], half: usize, ring: BondSet)
@@ -21,61 +22,46 @@ fn double(sums: &mut [u64], half: usize, ring: BondSet)
     ensures long { length sums.new ≡ length sums.old }
     ensures sums { Doubled (sets_in sums.old) half (bits ring) (sets_in sums.new) }
 {
-    let mut j: usize = 0;
-    while j < half {
+    for j in 0..half {
         ring.sum(BondSet::at(sums, j)).put_at(sums, half + j);
-        j += 1;
     }
 }
 
-// Does none of the rings found from one place up to another lie inside a sum? This is most of a cage's time, and the time goes into
-// branches: two rings are held against the sum in a turn.
-fn is_ring(found: &[u64], from: usize, to: usize, sum: BondSet) -> bool
-    requires { (from ≤ to) × (to ≤ length (sets_in found.now)) }
-    ensures { result ≡ clear? (between from to (sets_in found.now)) (bits sum) }
+// Does none of these rings lie inside a sum? This is most of a cage's time, and the time goes into branches: two rings are held against the
+// sum in a turn.
+fn is_ring(rings: &[u64], sum: BondSet) -> bool
+    ensures { result ≡ clear? (sets_in rings.now) (bits sum) }
 {
-    let mut i = from;
-    while to - i > 1 {
-        let one = BondSet::at(found, i).inside(sum);
-        let next = BondSet::at(found, i + 1).inside(sum);
+    let pairs = rings.chunks_exact(2 * WORDS);
+    let last = pairs.remainder();
+    for pair in pairs {
+        let one = BondSet::at(pair, 0).inside(sum);
+        let next = BondSet::at(pair, 1).inside(sum);
         if one | next {
             return false;
         }
-        i += 2;
     }
-    if i < to {
-        return !BondSet::at(found, i).inside(sum);
+    if sets_in(last) > 0 {
+        return !BondSet::at(last, 0).inside(sum);
     }
     true
 }
 
-// The sum at a place follows the rings found where it is a ring, which those from one place up to another tell.
-fn add_sum(sums: &[u64], j: usize, found: &mut [u64], from: usize, to: usize, n: usize) -> usize
-    requires { (j < length (sets_in sums.now)) × (from ≤ to) × (to ≤ n) × (Room (rings_among (between from to (sets_in found.old)) (between j (j + 1) (sets_in sums.now))) (sets_in found.old) n) }
-    ensures long { length found.new ≡ length found.old }
-    ensures added { Appended (sets_in found.old) n (rings_among (between from to (sets_in found.old)) (between j (j + 1) (sets_in sums.now))) (sets_in found.new) result }
+// The rings of a group, which the rings found before it tell, are put from the start of a list on. Gives how many there are.
+fn add_group(group: &[u64], rings: &[u64], out: &mut [u64]) -> usize
+    requires { Room (rings_among (sets_in rings.now) (sets_in group.now)) (sets_in out.old) 0 }
+    ensures long { length out.new ≡ length out.old }
+    ensures added { Appended (sets_in out.old) 0 (rings_among (sets_in rings.now) (sets_in group.now)) (sets_in out.new) result }
 {
-    let sum = BondSet::at(sums, j);
-    if is_ring(found, from, to, sum) {
-        sum.put_at(found, n);
-        return n + 1;
+    let mut n: usize = 0;
+    for j in 0..sets_in(group) {
+        let sum = BondSet::at(group, j);
+        if is_ring(rings, sum) {
+            sum.put_at(out, n);
+            n += 1;
+        }
     }
     n
-}
-
-// The rings of a group, which are told by the rings found before it from one place on, follow these.
-fn add_group(sums: &[u64], half: usize, found: &mut [u64], from: usize, n: usize) -> usize
-    requires { (half + half ≤ length (sets_in sums.now)) × (from ≤ n) × (Room (rings_among (between from n (sets_in found.old)) (between half (half + half) (sets_in sums.now))) (sets_in found.old) n) }
-    ensures long { length found.new ≡ length found.old }
-    ensures added { Appended (sets_in found.old) n (rings_among (between from n (sets_in found.old)) (between half (half + half) (sets_in sums.now))) (sets_in found.new) result }
-{
-    let mut count = n;
-    let mut j = half;
-    while j < half + half {
-        count = add_sum(sums, j, found, from, n, count);
-        j += 1;
-    }
-    count
 }
 
 // The rings of an assembly, given by the places of its basis rings, follow the rings found. Its sums stand in a list of their own.
@@ -94,12 +80,12 @@ pub fn add_assembly(
     BondSet::EMPTY.put_at(sums, 0);
     let mut half: usize = 1;
     let mut count = n;
-    let mut i = members.next(0);
-    while i <= RingSet::LAST {
+    for i in members {
         double(sums, half, BondSet::at(rings, i));
-        count = add_group(sums, half, found, n, count);
+        let group = &sums[half * WORDS..(half + half) * WORDS];
+        let (before, after) = found.split_at_mut(count * WORDS);
+        count += add_group(group, &before[n * WORDS..], after);
         half = half + half;
-        i = members.next(i + 1);
     }
     count
 }

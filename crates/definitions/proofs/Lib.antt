@@ -2,6 +2,7 @@
 --     Tests       bounded tests and what they say
 --     Lists       what the list-makers of specs/Search.antt list, and how they go on by one
 --     Passing     a loop over the members of a set of places, by `next`
+--     Over        a `for` over the members of a set of places
 --     Sorting     lists in an order: what a sorted list is, and that there is one only
 --     Refusals    each refusal is given exactly when its sentence holds
 --     Rings       the tests for even sets and rings; all rings, each once and in order
@@ -16,6 +17,7 @@
 pub mod Tests
 pub mod Lists
 pub mod Passing
+pub mod Over
 pub mod Sorting
 pub mod Refusals
 pub mod Rings

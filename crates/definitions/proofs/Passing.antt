@@ -1,19 +1,17 @@
--- A loop over the members of a set of places by `next`: before each turn f of every member that is passed is listed, in order.
+-- The members of a set of places up to one that `next` gives: f of every member that is passed is listed, in order.
 --     Passed m s i    the members of s below i are passed, and i is the next, or m where there is none
--- Laws: passed_first before the first turn, passed-more for one turn, passed-all after the last; passed-rises: the loop ends.
--- Assumes nothing.
+-- Laws: passed_next for the place that `next` gives, passed_first before the first member, passed_all after the last. Assumes nothing.
 use mathlib.Core.Path.{◌≡◌, refl, sym, ap, ◌∙◌}
 use mathlib.Core.Bool.{Bool, true, false}
-use mathlib.Core.List.{[], ◌∷◌, ◌++◌}
-use Prim.Native.Nat.{ℕ, ◌+◌, ◌≤◌, ◌<◌}
+use mathlib.Core.List.{[]}
+use Prim.Native.Nat.{ℕ, ◌≤◌, ◌<◌}
 use native.Mathlib.Numerals.{add-one}
 use native.Mathlib.Nat.{le_antisymm}
 use native.Mathlib.Decide.{le_ind}
 use native.Mathlib.Omega.{arith}
 use Rattle.sets.specs.Bits.{has, IsNext}
-use Rattle.sets.proofs.Upto.{next_rises}
 use Rattle.definitions.specs.Search.{listed}
-use Rattle.definitions.proofs.Lists.{listed-zero, listed_skip, listed-take}
+use Rattle.definitions.proofs.Lists.{listed-zero, listed_skip}
 
 -- where no number from k up to n passes, the same are listed below both
 pub listed_gap : {A : Type 0} (p : ℕ → Bool) (f : ℕ → A) (k n : ℕ) → k ≤ n → ((j : ℕ) → k ≤ j → j < n → p j ≡ false) → listed n p f ≡ listed k p f
@@ -34,15 +32,6 @@ passed_next n = record { within = n.within; member = n.member }
 -- before the first member nothing is listed
 pub passed_first : {A : Type 0} {m s i : ℕ} (f : ℕ → A) → IsNext m s 0 i → listed i (has s) f ≡ []
 passed_first {A} {m} {s} {i} f n = listed_gap (has s) f 0 i (omega arith) n.none ∙ listed-zero (has s) f
-
-module _ {m s i j : ℕ} (p : Passed m s i) (l : i < m) (n : IsNext m s (i + 1) j) where
-  -- the place rises
-  pub passed_rises : i < j
-  passed_rises = next_rises m s i j l n
-
-  -- one member more is listed, the last
-  pub passed_more : {A : Type 0} (f : ℕ → A) → listed j (has s) f ≡ listed i (has s) f ++ (f i ∷ [])
-  passed_more f = listed_gap (has s) f (i + 1) j (omega (arith, passed_rises)) n.none ∙ listed-take (has s) f i refl (p.member l)
 
 -- after the last member all are listed
 pub passed_all : {A : Type 0} {m s i : ℕ} (f : ℕ → A) → Passed m s i → m ≤ i → listed i (has s) f ≡ listed m (has s) f

@@ -1,12 +1,13 @@
 -- Tagged fields: a head of three bytes, and the content after it. Assumes nothing.
 use mathlib.Core.Path.{◌≡◌, ap, ◌∙◌}
 use mathlib.Core.List.{List, ◌∷◌}
-use Prim.Native.Nat.{ℕ, suc, ◌+◌, ◌-◌, ◌≤◌}
+use Prim.Native.Nat.{ℕ, suc, ◌+◌, ◌≤◌}
 use native.Mathlib.Omega.{arith}
 use lib.ListN.{length, length-append}
 use Rattle.definitions.specs.Label.{bytes_of, field}
-use Rattle.lent.specs.Appended.{Room, Appended}
-use Rattle.lent.proofs.Appending.{appended_more, appended_before}
+use Rattle.lent.specs.declared.Writer.{Writer}
+use Rattle.lent.specs.Writes.{Fits, Writes}
+use Rattle.lent.proofs.Writing.{writes_room, writes_more}
 use Rattle.fields.proofs.Bytes.{length-bytes_of}
 
 -- a field is three bytes longer than its content
@@ -15,29 +16,18 @@ unfolding field
 length-field tag content =
     ap suc (length-append (bytes_of 2 (length content)) content) ∙ omega (arith, length-bytes_of 2 (length content))
 
-module _ (l : List ℕ) (at tag : ℕ) (content : List ℕ) (room : Room (field tag content) l at) where
+module _ (tag : ℕ) (content : List ℕ) (before : Writer) (room : Fits (field tag content) before) where
   -- there is room for the head
-  pub head-fits : at + 3 ≤ length l
+  pub head-fits : before.at + 3 ≤ length before.out.now
   head-fits = omega (arith, length-field tag content)
 
-  module _ {m : List ℕ} {n next : ℕ} (told : n ≡ length content) (head : Appended l at (tag ∷ bytes_of 2 n) m next) where
+  module _ {n : ℕ} {after : Writer} (told : n ≡ length content) (head : Writes (tag ∷ bytes_of 2 n) before after) where
     -- and for the content after it
-    pub content_fits : length m ≡ length l → next + length content ≤ length m
-    content_fits e = omega (arith, head.end, length-bytes_of 2 n, length-field tag content)
-
-    -- the content appended after its head is the field
-    pub field_appended : {r : List ℕ} {last : ℕ} → Appended m next content r last → Appended l at (field tag content) r last
+    pub content_fits : Fits content after
     unfolding field
-    field_appended a = rw (← told) (appended_more (omega arith) head a)
+    content_fits = writes_room (rw told at head) content room
 
-  -- there is room for the content past the head
-  pub body_fits : at + 3 + length content ≤ length l
-  body_fits = omega (arith, length-field tag content)
-
-  -- the head written before its content is the field
-  pub field-before : {m r : List ℕ} {last next : ℕ} → Appended l (at + 3) content m last → Appended m at (tag ∷ bytes_of 2 (last - at - 3)) r next
-      → Appended l at (field tag content) r last
-  unfolding field
-  field-before {last = last} a b =
-      let told : last - at - 3 ≡ length content = omega (arith, a.end) in
-      rw (← told) (appended_before (omega (arith, length-bytes_of 2 (last - at - 3))) (omega (arith, body_fits)) a b)
+    -- the content written after its head makes the field
+    pub field_written : {last : Writer} → Writes content after last → Writes (field tag content) before last
+    unfolding field
+    field_written then = writes_more (rw told at head) then

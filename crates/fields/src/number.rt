@@ -1,61 +1,34 @@
 // Numbers as bytes.
-ghost use Rattle.std.specs.Prelude.{◌≡◌, ◌∷◌, ◌+◌, ◌/◌, ◌%◌, ◌^◌, ◌≤◌, ◌<◌, length, take};
+ghost use Rattle.std.specs.Prelude.{◌∷◌, ◌+◌, ◌≤◌, length};
 ghost use Rattle.definitions.specs.Label.{bytes_of, bytes_of_all};
-ghost use Rattle.lent.specs.Appended.{Room, Appended};
+ghost use Rattle.lent.specs.Writes.{Fits, Writes};
 
-// The bits of a byte.
-const BITS: usize = 8;
-
-// A byte is one of so many numbers.
-const BYTE: u64 = 256;
-
-// Byte k of a number: byte 0 is the low one.
-fn byte_of(number: u64, k: usize) -> u8
-    requires { k < 8 }
-    ensures { result ≡ number / 256 ^ k % 256 }
-{
-    ((number >> (BITS * k)) % BYTE) as u8
-}
+use lent::Writer;
 
 // A number in so many bytes, high byte first.
-pub fn put_number(width: usize, number: u64, out: &mut [u8], at: usize) -> usize
-    requires { (width ≤ 8) × (at + width ≤ length out.old) }
-    ensures { Appended out.old at (bytes_of width number) out.new result }
+pub fn put_number(width: usize, number: u64, writer: &mut Writer)
+    requires { (width ≤ 8) × (writer.old.at + width ≤ length writer.old.out.now) }
+    ensures { Writes (bytes_of width number) writer.old writer.new }
 {
-    let mut i: usize = 0;
-    while i < width {
-        let k = width - 1 - i;
-        out[at + i] = byte_of(number, k);
-        i += 1;
-    }
-    at + width
+    let bytes = number.to_be_bytes();
+    writer.bytes(&bytes[bytes.len() - width..]);
 }
 
 // One byte and a number after it.
-pub fn put_tagged(tag: u8, width: usize, number: u64, out: &mut [u8], at: usize) -> usize
-    requires { (width ≤ 8) × (at + 1 + width ≤ length out.old) }
-    ensures { Appended out.old at (tag ∷ bytes_of width number) out.new result }
+pub fn put_tagged(tag: u8, width: usize, number: u64, writer: &mut Writer)
+    requires { (width ≤ 8) × (writer.old.at + 1 + width ≤ length writer.old.out.now) }
+    ensures { Writes (tag ∷ bytes_of width number) writer.old writer.new }
 {
-    out[at] = tag;
-    put_number(width, number, out, at + 1)
+    writer.byte(tag);
+    put_number(width, number, writer);
 }
 
-// The first n numbers of a list, each in so many bytes.
-pub(crate) fn put_numbers(
-    width: usize,
-    numbers: &[u64],
-    n: usize,
-    out: &mut [u8],
-    at: usize,
-) -> usize
-    requires { (width ≤ 8) × (n ≤ length numbers.now) × Room (bytes_of_all width (take n numbers.now)) out.old at }
-    ensures { Appended out.old at (bytes_of_all width (take n numbers.now)) out.new result }
+// The numbers of a list, each in so many bytes.
+pub(crate) fn put_numbers(width: usize, numbers: &[u64], writer: &mut Writer)
+    requires { (width ≤ 8) × Fits (bytes_of_all width numbers.now) writer.old }
+    ensures { Writes (bytes_of_all width numbers.now) writer.old writer.new }
 {
-    let mut next: usize = at;
-    let mut i: usize = 0;
-    while i < n {
-        next = put_number(width, numbers[i], out, next);
-        i += 1;
+    for number in numbers {
+        put_number(width, *number, writer);
     }
-    next
 }

@@ -1,5 +1,5 @@
 // The library's face: every entry in one place, for Rattle programs; `foliocrane_c` exports them for C and Rust. Each takes any table, an atom
-// count and two bytes a bond, and has the contract of the entry that it calls: number, count and every element of what is lent, for every
+// count and two bytes a bond, and tells as numbers what the entry tells that it calls: number, count and every element of what is lent, for every
 // input, and what is only read is as it was. What is demanded of a call stands in specs/, and proofs/ has it of these contracts.
 #![tactic(auto)]
 
@@ -24,7 +24,7 @@ pub extern "C" fn foliocrane_check(atoms: u64, bonds: &[u8]) -> Answer
     ensures answer { outcome_of result.number result.count [] ≡ counted (refusal (table_of atoms bonds.now)) (length (basis_rings (table_of atoms bonds.now))) }
     ensures read { bonds.exit.now ≡ bonds.entry.now }
 {
-    basis::check(atoms, bonds)
+    basis::check(atoms, bonds).into()
 }
 
 // The basis rings, in order of their closure bonds, as words.
@@ -33,7 +33,7 @@ pub extern "C" fn foliocrane_basis_rings(atoms: u64, bonds: &[u8], out: &mut [u6
     ensures answer { outcome_of result.number result.count out.new ≡ written_sets (refusal (table_of atoms bonds.now)) (basis_rings (table_of atoms bonds.now)) out.old }
     ensures read { bonds.exit.now ≡ bonds.entry.now }
 {
-    basis::basis_rings(atoms, bonds, out)
+    basis::basis_rings(atoms, bonds, out).into()
 }
 
 // The assembly of each basis ring, one byte a ring.
@@ -42,7 +42,7 @@ pub extern "C" fn foliocrane_assemblies(atoms: u64, bonds: &[u8], out: &mut [u8]
     ensures answer { outcome_of result.number result.count out.new ≡ written (refusal (table_of atoms bonds.now)) (assemblies (table_of atoms bonds.now)) out.old }
     ensures read { bonds.exit.now ≡ bonds.entry.now }
 {
-    basis::assemblies(atoms, bonds, out)
+    basis::assemblies(atoms, bonds, out).into()
 }
 
 // All rings, as words: the smaller ring first, and of two with one size the lower word.
@@ -51,7 +51,7 @@ pub extern "C" fn foliocrane_all_rings(atoms: u64, bonds: &[u8], out: &mut [u64]
     ensures answer { outcome_of result.number result.count out.new ≡ written_sets (refusal_of_rings (table_of atoms bonds.now)) (all_rings (table_of atoms bonds.now)) out.old }
     ensures read { bonds.exit.now ≡ bonds.entry.now }
 {
-    lists::all_rings(atoms, bonds, out)
+    lists::all_rings(atoms, bonds, out).into()
 }
 
 // The smallest basis, as taken from the list of all rings, as words.
@@ -60,7 +60,7 @@ pub extern "C" fn foliocrane_smallest_basis(atoms: u64, bonds: &[u8], out: &mut 
     ensures answer { outcome_of result.number result.count out.new ≡ written_sets (refusal_of_rings (table_of atoms bonds.now)) (smallest_basis (table_of atoms bonds.now)) out.old }
     ensures read { bonds.exit.now ≡ bonds.entry.now }
 {
-    lists::smallest_basis(atoms, bonds, out)
+    lists::smallest_basis(atoms, bonds, out).into()
 }
 
 // The reduced basis of 000, as words. It depends on the numbering, and never enters a label.
@@ -69,7 +69,7 @@ pub extern "C" fn foliocrane_reduced_basis(atoms: u64, bonds: &[u8], out: &mut [
     ensures answer { outcome_of result.number result.count out.new ≡ written_sets (refusal (table_of atoms bonds.now)) (reduced_basis (table_of atoms bonds.now)) out.old }
     ensures read { bonds.exit.now ≡ bonds.entry.now }
 {
-    reduced::reduced_basis(atoms, bonds, out)
+    reduced::reduced_basis(atoms, bonds, out).into()
 }
 
 // A ring in walking order, its atoms and its bonds, a byte each: from the lower atom of its lowest bond over that bond and on until one is
@@ -86,7 +86,7 @@ pub extern "C" fn foliocrane_ring_walk(
     ensures read { bonds.exit.now ≡ bonds.entry.now }
 {
     let ring = BondSet::of_words([set]);
-    walk::ring_walk(atoms, bonds, ring, ring_atoms, ring_bonds)
+    walk::ring_walk(atoms, bonds, ring, ring_atoms, ring_bonds).into()
 }
 
 // The label.
@@ -95,7 +95,7 @@ pub extern "C" fn foliocrane_label(atoms: u64, bonds: &[u8], out: &mut [u8]) -> 
     ensures answer { outcome_of result.number result.count out.new ≡ written (refusal_of_rings (table_of atoms bonds.now)) (label_of (table_of atoms bonds.now)) out.old }
     ensures read { bonds.exit.now ≡ bonds.entry.now }
 {
-    label::label(atoms, bonds, out)
+    label::label(atoms, bonds, out).into()
 }
 
 // The sidecar: the reduced basis in a field of its own.
@@ -104,7 +104,7 @@ pub extern "C" fn foliocrane_sidecar(atoms: u64, bonds: &[u8], out: &mut [u8]) -
     ensures answer { outcome_of result.number result.count out.new ≡ written (refusal (table_of atoms bonds.now)) (sidecar_of (table_of atoms bonds.now)) out.old }
     ensures read { bonds.exit.now ≡ bonds.entry.now }
 {
-    sidecar::sidecar(atoms, bonds, out)
+    sidecar::sidecar(atoms, bonds, out).into()
 }
 
 // The part of the first list, or else of the second, whose sets have a size. It hands back a part of a lent list, so it is for Rattle alone.

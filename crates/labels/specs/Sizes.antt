@@ -1,13 +1,8 @@
 -- The histogram that is made of how many sets have each size. Assumes nothing.
-use Rattle.std.specs.Prelude.{◌≡◌, true, false, List, [], ◌∷◌, ℕ, ◌≤◌, get_or, eqb}
+use Rattle.std.specs.Prelude.{true, false, List, [], ◌∷◌, ℕ, get_or, eqb}
 use Rattle.definitions.specs.Search.{gather}
 use Rattle.definitions.specs.Label.{bytes_of}
 use Rattle.definitions.specs.Table.{all_sizes}
-
--- no set has a size of top or above
-pub record NoneFrom (top : ℕ) (counts : List ℕ) : Type 0 where
-  pub within : top ≤ all_sizes
-  pub none : (z : ℕ) → top ≤ z → get_or counts z 0 ≡ 0
 
 -- one size, one byte, and in n bytes how many sets have it; nothing where none has
 unfoldable pub line : ℕ → ℕ → ℕ → List ℕ

@@ -1,80 +1,72 @@
-// The histogram of how many sets have each size: for each size that some set has, one byte size and the count. Only the sizes below top are
-// gone through, since no set has another.
-ghost use Rattle.std.specs.Prelude.{◌≡◌, ℕ, ◌+◌, ◌*◌, ◌≤◌, ◌<◌, length};
+// The histogram of how many sets have each size: for each size that some set has, one byte size and the count. A list of counts has one for
+// each size from 0 on, and no set has a size past its end.
+ghost use Rattle.std.specs.Prelude.{◌≡◌, ◌+◌, ◌*◌, ◌≤◌, ◌<◌, length, count_by, ltb};
 ghost use Rattle.definitions.specs.Table.{all_sizes};
 ghost use Rattle.definitions.specs.Label.{field};
-ghost use Rattle.lent.specs.Appended.{Room, Appended};
+ghost use Rattle.lent.specs.Writes.{Fits, Writes};
 ghost use Rattle.labels.specs.Sizes as spec;
 
-use answers::SIZES;
-use fields::{HEAD, put_head, put_tagged};
+use fields::{put_head, put_tagged};
+use lent::Writer;
 
-// How many bytes the line of a size takes, whichever it is.
-fn line_bytes(width: usize, count: usize) -> usize
-    requires { width ≤ 8 }
-    ensures { ((size : ℕ) → result ≡ length (spec.line width size count)) × (result ≤ 9) }
-{
-    if count > 0 { 1 + width } else { 0 }
+// The counts of a histogram, the bytes that each takes, and the bytes of all its lines.
+#[derive(Clone, Copy)]
+pub(crate) struct Histogram<'a> {
+    width: usize,
+    counts: &'a [usize],
+    pub(crate) bytes: usize,
+    ghost narrow: { width ≤ 8 },
+    ghost sizes: { length counts.now ≤ all_sizes },
+    ghost long: { bytes ≡ length (spec.lines width counts.now) },
+    ghost short: { bytes ≤ 9 * all_sizes },
 }
 
-// How many bytes the histogram takes.
-pub(crate) fn histogram_bytes(width: usize, counts: &[usize; SIZES], top: usize) -> usize
-    requires { (width ≤ 8) × spec.NoneFrom top counts.now }
-    ensures { (result ≡ length (spec.lines width counts.now)) × (result ≤ 9 * all_sizes) }
+// How many sizes some set has.
+fn sizes_had(counts: &[usize]) -> usize
+    ensures { result ≡ count_by (λ k. ltb 0 k) counts.now }
 {
-    let mut bytes: usize = 0;
-    let mut size: usize = 0;
-    while size < top {
-        bytes += line_bytes(width, counts[size]);
-        size += 1;
-    }
-    bytes
+    counts.iter().filter(|count| **count > 0).count()
 }
 
 // The line of a size: nothing where no set has it.
-fn put_line(width: usize, size: usize, count: usize, out: &mut [u8], at: usize) -> usize
-    requires { (width ≤ 8) × (size < all_sizes) × Room (spec.line width size count) out.old at }
-    ensures { Appended out.old at (spec.line width size count) out.new result }
+fn put_line(width: usize, size: usize, count: usize, writer: &mut Writer)
+    requires { (width ≤ 8) × (size < all_sizes) × Fits (spec.line width size count) writer.old }
+    ensures { Writes (spec.line width size count) writer.old writer.new }
 {
-    if count == 0 {
-        return at;
+    if count > 0 {
+        put_tagged(size as u8, width, count as u64, writer);
     }
-    put_tagged(size as u8, width, count as u64, out, at)
 }
 
-// The histogram, its sizes rising.
-fn put_histogram(
-    width: usize,
-    counts: &[usize; SIZES],
-    top: usize,
-    out: &mut [u8],
-    at: usize,
-) -> usize
-    requires { (width ≤ 8) × spec.NoneFrom top counts.now × Room (spec.lines width counts.now) out.old at }
-    ensures { Appended out.old at (spec.lines width counts.now) out.new result }
-{
-    let mut next: usize = at;
-    let mut size: usize = 0;
-    while size < top {
-        next = put_line(width, size, counts[size], out, next);
-        size += 1;
+impl<'a> Histogram<'a> {
+    // Each line has a byte more than its count.
+    pub(crate) fn new(width: usize, counts: &'a [usize]) -> Histogram<'a>
+        requires { (width ≤ 8) × (length counts.now ≤ all_sizes) }
+        ensures { (result.width ≡ width) × (result.counts.now ≡ counts.now) }
+    {
+        Histogram {
+            width,
+            counts,
+            bytes: sizes_had(counts) * (1 + width),
+        }
     }
-    next
-}
 
-// A field of a histogram. The content is written first, and then the head with the length that it came to.
-pub(crate) fn put_size_field(
-    tag: u8,
-    width: usize,
-    counts: &[usize; SIZES],
-    top: usize,
-    out: &mut [u8],
-    at: usize,
-) -> usize
-    requires { (width ≤ 8) × spec.NoneFrom top counts.now × Room (field tag (spec.lines width counts.now)) out.old at }
-    ensures { Appended out.old at (field tag (spec.lines width counts.now)) out.new result }
-{
-    let end = put_histogram(width, counts, top, out, at + HEAD);
-    put_head(tag, end - at - HEAD, out, at);
-    end
+    // Its lines, sizes rising.
+    fn put_lines(&self, writer: &mut Writer)
+        requires { Fits (spec.lines self.now.width self.now.counts.now) writer.old }
+        ensures { Writes (spec.lines self.now.width self.now.counts.now) writer.old writer.new }
+    {
+        for (size, count) in self.counts.iter().enumerate() {
+            put_line(self.width, size, *count, writer);
+        }
+    }
+
+    // A field of it.
+    pub(crate) fn put_field(&self, tag: u8, writer: &mut Writer)
+        requires { Fits (field tag (spec.lines self.now.width self.now.counts.now)) writer.old }
+        ensures { Writes (field tag (spec.lines self.now.width self.now.counts.now)) writer.old writer.new }
+    {
+        put_head(tag, self.bytes, writer);
+        self.put_lines(writer);
+    }
 }

@@ -1,7 +1,7 @@
-// A label's values and its bytes. No table is known here.
+// The bytes of a label, from its values. No table is known here.
 #![tactic(auto)]
 
 mod histogram;
 mod text;
 
-pub use text::{Numbers, write_label};
+pub use text::write_label;

@@ -1,17 +1,15 @@
 -- What is written into a lent list from a place on: what is appended, and the invariants of those who append.
 --     over                              items over the start of a list: over-length
 --     Appended                          nothing, a byte, one text after another; what is appended from the start stands over the list
---     Spelt text lent out at i          a loop that stores a text byte by byte: i bytes are stored
 --     Strung f N lent out at next k     a loop that appends N texts f 0, f 1, ..: k are appended
---     Begun text lent rest out at       calls that append one part after another over the start of a list: `rest` is left
 -- Each has laws `-none` at the start, `-more` for one turn, `-room` and `-length` at any, `-all` at the end. Assumes nothing.
-use mathlib.Core.Path.{◌≡◌, refl, sym, ap, ap₂, ◌∙◌}
+use mathlib.Core.Path.{◌≡◌, refl, sym, ap, ◌∙◌}
 use mathlib.Core.List.{List, [], ◌∷◌, ◌++◌, append_assoc}
 use Prim.Native.Nat.{ℕ, ◌+◌, ◌<◌, ◌≤◌}
 use native.Mathlib.Numerals.{add-one}
 use native.Mathlib.Omega.{arith}
-use lib.ListN.{length, get_or, take, drop, set, length-append, length-drop, take-append-drop}
-use lib.Seq.{set_split, take_at, drop_at, take-append-le, take-take, drop-drop, length-take-le, take_all, paste, paste-zero, paste-suc, length-paste}
+use lib.ListN.{length, take, drop, set, length-append, length-drop, take-append-drop}
+use lib.Seq.{set_split, take_at, drop_at, drop-drop, length-take-le}
 use Rattle.definitions.specs.Search.{gather}
 use Rattle.definitions.specs.Answer.{over}
 use Rattle.definitions.proofs.Lists.{gather_step, gather-zero, gather_mono}
@@ -78,64 +76,10 @@ appended_three {s = s} {t} {u} h a b c = appended_as (append_assoc s t u) (appen
 pub appended_four : {l m n o p s t u v : List ℕ} {i j k q r : ℕ} → i ≤ length l → Appended l i s m j → Appended m j t n k → Appended n k u o q → Appended o q v p r → Appended l i (s ++ (t ++ (u ++ v))) p r
 appended_four {s = s} {t} {u} {v} h a b c d = appended_as (simp append_assoc) (appended_more h (appended_more h (appended_more h a b) c) d)
 
--- a text written before a text that stands already is their text together
-pub appended_before : {l m r s t : List ℕ} {i j k next : ℕ} → j ≡ i + length s → j ≤ length l → Appended l j t m k → Appended m i s r next → Appended l i (s ++ t) r k
-appended_before {l} {m} {r} {s} {t} {i} {j} {k} {next} e h a b = record {
-  end = omega (arith, a.end, length-append s t);
-  list =
-      b.list
-      ∙ ap₂ (λ (x y : List ℕ). x ++ (s ++ y)) front back
-      ∙ ap (λ (x : List ℕ). take i l ++ x) (sym (append_assoc s t (drop k l)));
-}
-  where
-    front : take i m ≡ take i l
-    front =
-        ap (take i) a.list
-        ∙ take-append-le i (take j l) (t ++ drop k l) (omega (arith, length-take-le j l h))
-        ∙ take-take i j l (omega arith)
-
-    back : drop next m ≡ t ++ drop k l
-    back =
-        ap₂ drop (let q : next ≡ j = omega (arith, b.end) in q) a.list
-        ∙ drop_at (take j l) (t ++ drop k l) j (length-take-le j l h)
-
 -- what is appended from the start stands over the list
 pub appended_over : {l m s : List ℕ} {n : ℕ} → Appended l 0 s m n → m ≡ over s l
 unfolding over
 appended_over {l} {m} {s} {n} a = let e : n ≡ length s = omega (arith, a.end) in a.list ∙ ap (λ (k : ℕ). s ++ drop k l) e
-
--- ---- a text byte by byte
-
-pub record Spelt (text lent out : List ℕ) (at i : ℕ) : Type 0 where
-  pub within : i ≤ length text
-  pub room : at + length text ≤ length lent
-  pub list : out ≡ paste lent at text i
-
--- before the first byte the list is as lent
-pub spelt_none : (text lent : List ℕ) (at : ℕ) → at + length text ≤ length lent → Spelt text lent lent at 0
-spelt_none text lent at h = record { within = omega arith; room = h; list = paste-zero lent at text }
-
-module _ {text lent out : List ℕ} {at i : ℕ} (s : Spelt text lent out at i) where
-  -- the list keeps its length
-  pub spelt_length : length out ≡ length lent
-  spelt_length = ap length s.list ∙ length-paste lent at text i (omega (arith, s.within, s.room)) s.within
-
-  -- the next byte is stored at its place
-  pub spelt_more : {x : ℕ} → i < length text → x ≡ get_or text i 0 → Spelt text lent (set out (at + i) x) at (i + 1)
-  spelt_more {x} h e = record {
-    within = omega arith;
-    room = s.room;
-    list = rw (s.list, e, add-one) (paste-suc lent at text i 0 (omega (arith, s.room)) h);
-  }
-
-  -- after the last byte the text is appended
-  pub spelt_all : {n : ℕ} → n ≡ length text → n ≤ i → Appended lent at text out (at + n)
-  spelt_all {n} e h =
-      let q : i ≡ n = omega (arith, s.within) in
-      record {
-        end = ap (λ (k : ℕ). at + k) e;
-        list = s.list ∙ append_assoc (take at lent) (take i text) (drop (at + i) lent) ∙ rw (take_all i text (omega arith), q);
-      }
 
 -- ---- texts one after another
 
@@ -169,27 +113,3 @@ module _ {f : ℕ → List ℕ} {N : ℕ} {lent out : List ℕ} {at next k : ℕ
   -- after the last text all are appended
   pub strung_all : N ≤ k → Appended lent at (gather N f) out next
   strung_all h = let e : k ≡ N = omega (arith, s.within) in rw (← e) s.text
-
--- ---- parts of a text, call after call
-
-pub record Begun (text lent rest out : List ℕ) (at : ℕ) : Type 0 where
-  pub long : length out ≡ length lent
-  pub room : at + length rest ≤ length out
-  pub ends : (out' : List ℕ) (last : ℕ) → Appended out at rest out' last → out' ≡ over text lent
-
--- before the first call all of the text is left
-pub begun_none : (text lent : List ℕ) → length text ≤ length lent → Begun text lent text lent 0
-begun_none text lent h = record { long = refl; room = omega arith; ends = λ out' last a. appended_over a }
-
--- there is room for the next part
-pub begun_room : {text lent out : List ℕ} {at : ℕ} (s t : List ℕ) → Begun text lent (s ++ t) out at → at + length s ≤ length out
-begun_room s t b = omega (arith, b.room, length-append s t)
-
--- the next part is appended
-pub begun_more : {text lent out out' : List ℕ} {at next : ℕ} (s t : List ℕ) → Begun text lent (s ++ t) out at → length out' ≡ length out
-    → Appended out at s out' next → Begun text lent t out' next
-begun_more s t b e a = record {
-  long = e ∙ b.long;
-  room = omega (arith, b.room, length-append s t, a.end);
-  ends = λ out'' last q. b.ends out'' last (appended_more (omega (arith, b.room)) a q);
-}

@@ -6,7 +6,6 @@ use native.Mathlib.Omega.{arith}
 use lib.ListN.{length, get_or, take}
 use lib.Pow.{pow_mono}
 use Rattle.sets.specs.Bits.{size}
-use Rattle.sets.specs.Bond.{room}
 use Rattle.sets.specs.Lists.{sets_in, words}
 use Rattle.sets.proofs.Lists.{sets-length}
 use Rattle.definitions.specs.Search.{sort, gather}
@@ -18,10 +17,12 @@ use Rattle.definitions.proofs.Sorting.{sort_in}
 use Rattle.lent.specs.Appended.{Appended}
 use Rattle.lent.proofs.Between.{appended_take}
 use Rattle.answers.proofs.Answers.{sets-accepted}
+use Rattle.arrayvec.specs.ArrayVec.{array_vec_len}
 use Rattle.basis.specs.Held.{members_of}
 use Rattle.combining.specs.Gibbs.{found_at, found_in}
-use Rattle.choosing.specs.Elimination.{Spanned, Choosable, Selected}
+use Rattle.choosing.specs.Elimination.{Spanned}
 use Rattle.perception.specs.Perceiving.{Perceives}
+use Rattle.std.proofs.Common.{Ok}
 use Rattle.perception.specs.declared.Perceived.{Perceived}
 use Rattle.perception.proofs.Perceiving.{all_found-few, perceived, perceived_small, perceived_found, perceived_room, perceived_most}
 use Rattle.lists.specs.Listed.{Listable, Ordered, Workable}
@@ -50,41 +51,31 @@ listed-ordered g h e = record { few = h; list = e ∙ ap (sort before) (appended
 
 -- ---- the rings in order
 
-module _ {rings sets : List ℕ} {r : ℕ} (o : Ordered rings sets r) where
-  -- where each is a sum of as many basis rings as are wanted, a smallest basis can be chosen from them
-  pub ordered_choosable : {n : ℕ} {taken : List ℕ} → n ≤ room → Spanned n rings → length taken ≡ room → Choosable sets r n taken
-  ordered_choosable few spanned t = record {
-    within = o.few;
-    lent = t;
-    few = few;
-    spanned = (spanned.0, spanned.1, λ x i. spanned.2 x ((sort_in before rings x).0 (rw o.list at i)));
-  }
-
-  -- what is chosen from them is taken of them
-  pub ordered-chosen : {lent taken : List ℕ} {k : ℕ} → Selected (take r sets) lent taken k → take k taken ≡ taking [] (sort before rings)
-  ordered-chosen chosen = chosen.list ∙ ap (taking []) o.list
+-- as they are sums of so many basis rings, so are they in order
+pub spanned_sorted : {n : ℕ} {rings : List ℕ} → Spanned n rings → Spanned n (sort before rings)
+spanned_sorted {n} {rings} spanned = (spanned.0, spanned.1, λ x i. spanned.2 x ((sort_in before rings x).0 i))
 
 -- ---- what is worked out of an accepted table
 
-module _ {M : Table} {p : Perceived} (seen : Perceives M p) (zero : p.number ≤ 0) where
+module _ {M : Table} {p : Perceived} (seen : Perceives M (Ok p)) where
   -- the longest lists have room for its rings, and so have shorter ones that hold more sets than its assemblies have sums
-  pub perceived_workable : Workable (members_of p.assemblies) p.assemblies.count p.sums
+  pub perceived_workable : Workable (members_of p.assemblies) (array_vec_len p.assemblies) p.sums
   perceived_workable =
-      let small = perceived_small seen zero in
+      let small = perceived_small seen in
       record {
-        longest = record { counted = small.counted; found = perceived_most seen zero; sums = λ a l. omega (arith, pow_mono (small.small a l)) };
-        shorter = λ m h. record { counted = small.counted; found = omega (arith, (perceived seen zero).sums); sums = perceived_room seen zero h };
+        longest = record { counted = small.counted; found = perceived_most seen; sums = λ a l. omega (arith, pow_mono (small.small a l)) };
+        shorter = λ m h. record { counted = small.counted; found = omega (arith, (perceived seen).sums); sums = perceived_room seen h };
       }
 
   -- an answer that holds what is found of it in order holds all rings
   pub perceived_all : (lent : List ℕ) {o : Outcome (List ℕ)}
-      → o ≡ written_sets 0 (sort before (found_in (sets_in p.basis.rings) (members_of p.assemblies) p.assemblies.count)) lent
+      → o ≡ written_sets 0 (sort before (found_in (sets_in p.basis.rings) (members_of p.assemblies) (array_vec_len p.assemblies))) lent
       → o ≡ written_sets (refusal_of_rings M) (all_rings M) lent
-  perceived_all lent h = sets-accepted (all_rings M) lent seen.number zero (perceived_found seen zero) h
+  perceived_all lent h = sets-accepted (all_rings M) lent seen.number (perceived_found seen) h
 
   -- one that holds what is taken of that holds the smallest basis
   pub perceived_smallest : (lent : List ℕ) {o : Outcome (List ℕ)}
-      → o ≡ written_sets 0 (taking [] (sort before (found_in (sets_in p.basis.rings) (members_of p.assemblies) p.assemblies.count))) lent
+      → o ≡ written_sets 0 (taking [] (sort before (found_in (sets_in p.basis.rings) (members_of p.assemblies) (array_vec_len p.assemblies)))) lent
       → o ≡ written_sets (refusal_of_rings M) (smallest_basis M) lent
   unfolding smallest_basis
-  perceived_smallest lent h = sets-accepted (smallest_basis M) lent seen.number zero (ap (taking []) (perceived_found seen zero)) h
+  perceived_smallest lent h = sets-accepted (smallest_basis M) lent seen.number (ap (taking []) (perceived_found seen)) h

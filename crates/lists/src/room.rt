@@ -1,8 +1,9 @@
-// How long the lists are in which all rings are worked out, in sets.
+// How long the longest lists are in which all rings are worked out.
+use sets::WORDS;
 
 // No table has more rings: ten basis rings have 1023 sums that are not empty, fewer basis rings have fewer for each, and a table has at
 // most 64.
-pub(crate) const MOST: usize = 6547;
+const MOST: usize = 6547;
 
-// So many lengths are shorter: FEW and MANY.
-pub(crate) const SHORTER: usize = 2;
+// Their length in words.
+pub(crate) const MOST_WORDS: usize = MOST * WORDS;

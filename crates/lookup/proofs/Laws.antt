@@ -1,93 +1,71 @@
--- How `start` and `run` go on from one set to the next, how far they reach, and when the part that is found is empty. Assumes nothing.
-use mathlib.Core.Bool.{Bool, true, false, not, cond}
-use mathlib.Core.List.{List, [], ◌∷◌}
-use mathlib.Core.Path.{◌≡◌, refl, sym, ap, ap₂, ◌∙◌}
-use Prim.Native.Nat.{ℕ, suc, ◌+◌, ◌-◌, ◌*◌, ◌≤◌, ◌<◌}
-use native.Mathlib.Nat.{lt_of_not-le, le_of_suc-le-suc}
-use native.Mathlib.Numerals.{add-one}
+-- Where a search ends, how far `start` and `run` reach, and when the part that is found is empty. Assumes nothing.
+use Rattle.std.proofs.Common.{Option, Some, None, unwrap_or}
+use Rattle.std.specs.Option.{MatchOption}
+use Rattle.std.specs.List.{prefix_len}
+use Rattle.std.proofs.lemmas.List.{get_or-drop}
+use Rattle.std.proofs.lemmas.List.Sums.{prefix_len_is, prefix_len_stops, prefix_len-le-length, prefix_len-drop_all, prefix_len-drop_yes}
+use mathlib.Core.Bool.{Bool, true, false, not}
+use mathlib.Core.List.{List}
+use mathlib.Core.Path.{◌≡◌, sym, ap, ap₂, ◌∙◌}
+use Prim.Native.Nat.{ℕ, ◌+◌, ◌-◌, ◌*◌, ◌≤◌, ◌<◌}
+use native.Mathlib.Nat.{zero-add, lt_of_not-le, le_of_suc-le-suc}
 use native.Mathlib.Omega.{arith}
-use borrow.Author.Tests.{not-true, not-false, lt-ltb, le-ltb}
+use borrow.Author.Tests.{not-false, eqb-true, eqb-false, lt-ltb, le-ltb}
 use lib.Dec.{eqb}
-use lib.ListN.{length, get_or, take, drop, length-drop, drop_of_length-le}
-use lib.Seq.{drop-cons, length-take-le}
+use lib.ListN.{length, get_or, take, drop, length-drop}
+use lib.Seq.{length-take-le}
 use Rattle.sets.specs.Bits.{size}
 use Rattle.sets.specs.Lists.{words, sets_in, words_of}
 use Rattle.sets.proofs.Lists.{sets-room, sets-drop, words_are, words-between, words-none, words-some}
 use Rattle.lookup.specs.Lookup.{start, run, some?, Lent, sets, part, found, of_size}
 
--- ---- the sets from i on begin with the one at i, which has r bonds
+-- ---- where a search ends that goes on from set `from` while the sets pass: at the first that does not, or at the end
 
-module _ (n : ℕ) (l : List ℕ) (i : ℕ) (inside : i < length l) {r : ℕ} (bonds : r ≡ size (get_or l i 0)) where
-  -- so the code's test is the definitions'
-  test : eqb (size (get_or l i 0)) n ≡ eqb r n
-  test = ap (λ (k : ℕ). eqb k n) (sym bonds)
-
-  -- with n bonds it is the first that has them
-  pub start_here : not (eqb r n) ≡ false → start n (drop i l) ≡ 0
-  unfolding start
-  start_here e = rw (drop-cons l i 0 inside, test, not-false (eqb r n) e)
-
-  -- with another number the first stands one set further than from i + 1
-  pub start-on : not (eqb r n) ≡ true → start n (drop i l) ≡ suc (start n (drop (i + 1) l))
-  unfolding start
-  start-on e = rw (add-one, drop-cons l i 0 inside, test, not-true (eqb r n) e)
-
-  -- with n bonds the run is one set longer than from i + 1
-  pub run_on : eqb r n ≡ true → run n (drop i l) ≡ suc (run n (drop (i + 1) l))
-  unfolding run
-  run_on e = rw (add-one, drop-cons l i 0 inside, test, e)
-
-  -- with another number there is no run
-  pub run_here : eqb r n ≡ false → run n (drop i l) ≡ 0
-  unfolding run
-  run_here e = rw (drop-cons l i 0 inside, test, e)
-
--- ---- there is no set from i on
-
-module _ (n : ℕ) (l : List ℕ) (i : ℕ) (past : length l ≤ i) where
-  -- so nothing stands before the end
-  pub start-end : start n (drop i l) ≡ 0
-  unfolding start
-  start-end = rw (drop_of_length-le l past)
-
-  -- and there is no run
-  pub run_end : run n (drop i l) ≡ 0
-  unfolding run
-  run_end = rw (drop_of_length-le l past)
+pub ends_at : (p : ℕ → Bool) (l : List ℕ) (from : ℕ) {n : ℕ} (r : Option ℕ) → n ≡ length l → from ≤ n
+    → MatchOption r ((k : ℕ) → from ≤ k → k < n → p (get_or l k 0) ≡ true)
+    (λ i. (from ≤ i) × (i < n) × (p (get_or l i 0) ≡ false) × ((k : ℕ) → from ≤ k → k < i → p (get_or l k 0) ≡ true))
+    → unwrap_or r n ≡ from + prefix_len p (drop from l)
+ends_at p l from {n} None all few passes =
+    omega (
+      arith,
+      prefix_len_is p (drop from l) (n - from) 0 (omega (arith, length-drop from l))
+          (λ k h. rw (get_or-drop from l k 0) (passes (from + k) (omega arith) (omega arith)))
+          (λ h. absurd (omega (arith, length-drop from l))),
+    )
+ends_at p l from (Some i) all few found =
+    let (low, within, stops, passes) = found in
+    let at : from + (i - from) ≡ i = omega arith in
+    omega (
+      arith,
+      prefix_len_is p (drop from l) (i - from) 0 (omega (arith, length-drop from l))
+          (λ k h. rw (get_or-drop from l k 0) (passes (from + k) (omega arith) (omega arith)))
+          (λ h. rw (get_or-drop from l (i - from) 0, at) stops),
+    )
 
 -- ---- how far they reach
 
--- the first set with n bonds stands at the end at most
-pub start-le : (n : ℕ) (l : List ℕ) → start n l ≤ length l
-unfolding start
-start-le n [] = omega arith
-start-le n (s ∷ l) = go (eqb (size s) n) (start-le n l)
-  where
-    go : (b : Bool) → start n l ≤ length l → cond b 0 (suc (start n l)) ≤ suc (length l)
-    go true h = omega arith
-    go false h = omega arith
+module _ (n : ℕ) (l : List ℕ) where
+  -- the first set with n bonds stands at the end at most
+  pub start-le : start n l ≤ length l
+  unfolding start
+  start-le = prefix_len-le-length _ l
 
--- the run is no longer than the list
-pub run-le : (n : ℕ) (l : List ℕ) → run n l ≤ length l
-unfolding run
-run-le n [] = omega arith
-run-le n (s ∷ l) = go (eqb (size s) n) (run-le n l)
-  where
-    go : (b : Bool) → run n l ≤ length l → cond b (suc (run n l)) 0 ≤ suc (length l)
-    go true h = omega arith
-    go false h = omega arith
+  -- the run is no longer than the list
+  run-le : run n l ≤ length l
+  unfolding run
+  run-le = prefix_len-le-length _ l
 
--- where a set has n bonds the run from the first such set is not empty
-pub run-found : (n : ℕ) (l : List ℕ) → start n l < length l → 0 < run n (drop (start n l) l)
-unfolding start run
-run-found n [] h = absurd (omega arith)
-run-found n (s ∷ l) h = go (eqb (size s) n) refl h (run-found n l)
-  where
-    go : (b : Bool) → eqb (size s) n ≡ b → cond b 0 (suc (start n l)) < suc (length l)
-        → (start n l < length l → 0 < run n (drop (start n l) l))
-        → 0 < run n (drop (cond b 0 (suc (start n l))) (s ∷ l))
-    go true e h ih = rw e (omega arith)
-    go false e h ih = ih (omega arith)
+  -- where a set has n bonds the run from the first such set is not empty
+  run-found : start n l < length l → 0 < run n (drop (start n l) l)
+  unfolding start run
+  run-found h =
+      let here : eqb (size (get_or l (start n l) 0)) n ≡ true = not-false _ (prefix_len_stops (λ s. not (eqb (size s) n)) l 0 h) in
+      omega (arith, prefix_len-drop_yes (λ s. eqb (size s) n) l (start n l) 0 h here)
+
+  -- and where none has, there is none
+  run-none : length l ≤ start n l → run n (drop (start n l) l) ≡ 0
+  unfolding run
+  run-none h = prefix_len-drop_all _ l (start n l) h
 
 -- ---- the part that is found, where the search ends at a and the run at e
 
@@ -118,32 +96,34 @@ module _ (n : ℕ) (l : Lent) {q : Lent} (is : q ≡ found n l) where
       ap (λ (p : Lent). length p.words) is ∙ length-take-le _ _ (sets-room _ _ few)
 
   -- where it is not empty a set of the list has n bonds
-  pub found_some : 0 < length q.words → some? n (sets l) ≡ true
+  pub found_some : false ≡ eqb (length q.words) 0 → some? n (sets l) ≡ true
   found_some h =
       lt-ltb _ _ (lt_of_not-le (λ (past : length (sets l) ≤ start n (sets l)).
-      absurd (omega (arith, found-length, ap words_of (run_end n (sets l) (start n (sets l)) past), words-none))))
+      absurd (eqb-false (length q.words) 0 (sym h) (omega (arith, found-length, ap words_of (run-none n (sets l) past), words-none)))))
 
   -- where it is empty none has
-  pub found_none : length q.words ≤ 0 → some? n (sets l) ≡ false
+  pub found_none : true ≡ eqb (length q.words) 0 → some? n (sets l) ≡ false
   found_none h =
       le-ltb _ _ (le_of_suc-le-suc (lt_of_not-le (λ (inside : start n (sets l) < length (sets l)).
-      absurd (omega (arith, found-length, words-some _ (run-found n (sets l) inside))))))
+      absurd (omega (arith, eqb-true (length q.words) 0 (sym h), found-length, words-some _ (run-found n (sets l) inside))))))
 
 -- ---- which list's part is handed back, where q is found in the first and r in the second
 
 module _ (n : ℕ) (first second : Lent) {q : Lent} (in-first : q ≡ found n first) where
   -- what is found in the first, where it is not empty
-  pub of_first : 0 < length q.words → q ≡ of_size n first second
+  pub of_first : false ≡ eqb (length q.words) 0 → q ≡ of_size n first second
   unfolding of_size
   of_first some = rw (found_some n first in-first some) in-first
 
-  -- else what is found in the second, where it is not empty
-  pub of_second : length q.words ≤ 0 → {r : Lent} → r ≡ found n second → 0 < length r.words → r ≡ of_size n first second
-  unfolding of_size
-  of_second none in-second some = rw (found_none n first in-first none, found_some n second in-second some) in-second
+  module _ (none : true ≡ eqb (length q.words) 0) {r : Lent} (in-second : r ≡ found n second) where
+    -- else what is found in the second, where it is not empty
+    pub of_second : false ≡ eqb (length r.words) 0 → r ≡ of_size n first second
+    unfolding of_size
+    of_second some = rw (found_none n first in-first none, found_some n second in-second some) in-second
 
-  -- else no words, at the place where the first list begins
-  pub of_neither : length q.words ≤ 0 → {r : Lent} → r ≡ found n second → length r.words ≤ 0 → stretch first 0 0 ≡ of_size n first second
-  unfolding of_size
-  of_neither none in-second none-either =
-      rw (found_none n first in-first none, found_none n second in-second none-either) (ap (λ (k : ℕ). stretch first k k) (sym words-none))
+    -- else no words, at the place where the first list begins
+    pub of_neither : true ≡ eqb (length r.words) 0 → record { place = first.place; words = take 0 first.words } ≡ of_size n first second
+    unfolding of_size
+    of_neither none-either =
+        rw (found_none n first in-first none, found_none n second in-second none-either)
+        (ap (λ (at : ℕ). record { place = (first.place.0, at); words = take 0 first.words }) (sym (zero-add first.place.1)) ∙ ap (λ (k : ℕ). stretch first k k) (sym words-none))

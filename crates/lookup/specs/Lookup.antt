@@ -1,13 +1,13 @@
 -- The size lookup: which part of which of two lists of sets it hands back. Assumes nothing.
-use Rattle.std.specs.Prelude.{Bool, cond, List, [], ◌∷◌, ℕ, suc, ◌+◌, ◌*◌, eqb, ltb, length, take, drop}
+use Rattle.std.specs.Prelude.{Bool, cond, List, ℕ, ◌+◌, ◌*◌, eqb, ltb, length, take, drop}
+use Rattle.std.specs.List.{position_or_len, prefix_len}
 use Rattle.std.specs.Borrow.{Bor}
 use Rattle.sets.specs.Bits.{size}
 use Rattle.sets.specs.Lists.{sets_in, words_of}
 
 -- where the first set with n bonds stands, by the number of sets before it; at the end where no set has n bonds
 unfoldable pub start : ℕ → List ℕ → ℕ
-start n [] = 0
-start n (s ∷ l) = cond (eqb (size s) n) 0 (suc (start n l))
+start n l = position_or_len (λ s. eqb (size s) n) l
 
 -- some set of the list has n bonds
 abbrev pub some? : ℕ → List ℕ → Bool
@@ -15,8 +15,7 @@ some? n l = ltb (start n l) (length l)
 
 -- for how many sets from the front on the size is n
 unfoldable pub run : ℕ → List ℕ → ℕ
-run n [] = 0
-run n (s ∷ l) = cond (eqb (size s) n) (suc (run n l)) 0
+run n l = prefix_len (λ s. eqb (size s) n) l
 
 -- a lent list: where it lies, as a block of memory and an offset in bytes, and its words
 pub record Lent : Type 0 where

@@ -2,13 +2,13 @@
 // lists. It takes lists of any length, and every size.
 #![tactic(auto)]
 
-ghost use Rattle.std.specs.Prelude.{◌≡◌, ◌+◌, ◌<◌, length, get_or, drop};
+ghost use Rattle.std.specs.Prelude.{◌≡◌, ◌+◌, ◌≤◌, ◌<◌, length, get_or, drop};
 ghost use Rattle.sets.specs.Bits as bits;
 ghost use Rattle.sets.specs.Lists.{sets_in};
 ghost use Rattle.lookup.specs.Lookup as spec;
 
 use sets::list::sets_in;
-use sets::{BondSet, WORDS};
+use sets::{BondSet, WORDS, WordSet};
 
 // How many bonds the set at place i has.
 fn bonds_at(list: &[u64], i: usize) -> u64
@@ -23,23 +23,16 @@ fn run_start(list: &[u64], size: u64) -> usize
     ensures { result ≡ spec.start size (sets_in list.now) }
 {
     let n = sets_in(list);
-    let mut i: usize = 0;
-    while i < n && bonds_at(list, i) != size {
-        i += 1;
-    }
-    i
+    (0..n).find(|&i| bonds_at(list, i) == size).unwrap_or(n)
 }
 
 // Where the sets from `start` on stop having that size.
 fn run_end(list: &[u64], start: usize, size: u64) -> usize
+    requires { start ≤ length (sets_in list.now) }
     ensures { result ≡ start + spec.run size (drop start (sets_in list.now)) }
 {
     let n = sets_in(list);
-    let mut i: usize = start;
-    while i < n && bonds_at(list, i) == size {
-        i += 1;
-    }
-    i
+    (start..n).find(|&i| bonds_at(list, i) != size).unwrap_or(n)
 }
 
 // The first sets in a row of one list that have that size, up to the next set of another; no words where no set has it.
@@ -58,12 +51,12 @@ pub fn of_size<'a>(first: &'a [u64], second: &'a [u64], size: u64) -> &'a [u64]
     ensures read { (first.exit.now ≡ first.entry.now) × (second.exit.now ≡ second.entry.now) }
 {
     let in_first = found(first, size);
-    if 0 < in_first.len() {
+    if !in_first.is_empty() {
         return in_first;
     }
     let in_second = found(second, size);
-    if 0 < in_second.len() {
+    if !in_second.is_empty() {
         return in_second;
     }
-    &first[0..0]
+    &first[..0]
 }

@@ -4,9 +4,10 @@
 // ends the output. A read that fails ends the input, and a write that fails is passed over.
 #![tactic(auto)]
 
-ghost use Rattle.std.specs.Prelude.{◌≡◌, ◌≤◌, length};
+ghost use Rattle.std.specs.Prelude.{◌≡◌, ◌+◌, ◌<◌, is_some, IfSome, length, get_or, take, drop, ltb};
 
-use std::io::Read;
+use records::read_input;
+use std::io::{self, Read};
 
 // No more words of the input are read: enough for two lists of all rings.
 const MOST_WORDS: usize = 16384;
@@ -14,125 +15,80 @@ const MOST_WORDS: usize = 16384;
 // Their bytes.
 const MOST_BYTES: usize = 8 * MOST_WORDS;
 
-// A byte as a larger number.
-fn wide(byte: u8) -> u64 {
-    byte as u64
-}
-
-// The words that bytes stand for.
-fn words_of(bytes: &[u8; MOST_BYTES]) -> [u64; MOST_WORDS]
+// The words that bytes stand for, and zeros.
+fn words_of(bytes: &[u8]) -> [u64; MOST_WORDS]
     ensures { 16384 ≡ length result }
 {
-    let mut words = [0u64; MOST_WORDS];
-    let mut i: usize = 0;
-    while i < MOST_BYTES {
-        let at = i / 8;
-        words[at] = (words[at] << 8) | wide(bytes[i]);
-        i += 1;
+    let mut words = [0; MOST_WORDS];
+    for (word, eight) in words.iter_mut().zip(bytes.as_chunks().0) {
+        *word = u64::from_be_bytes(*eight);
     }
     words
 }
 
-// Where the list ends whose number of words stands at a place; a broken one ends at the place itself.
-fn list_end(words: &[u64], at: usize) -> usize
-    requires { at ≤ length words.now }
-    ensures { (at ≤ result) × (result ≤ length words.now) }
+// The list that words start with, its number of words before it, and what comes after it; a broken one is none.
+fn first_list(words: &[u64]) -> Option<(&[u64], &[u64])>
+    ensures whole { is_some result ≡ ltb (get_or words.now 0 0) (length words.now) }
+    ensures list { IfSome result (λ parts. parts.0.now ≡ take (get_or words.now 0 0) (drop 1 words.now)) }
+    ensures rest { IfSome result (λ parts. parts.1.now ≡ drop (get_or words.now 0 0 + 1) words.now) }
 {
-    if at == words.len() {
-        return at;
-    }
-    let count = words[at] as usize;
-    if words.len() - at <= count {
-        return at;
-    }
-    at + 1 + count
-}
-
-// A size at the head of its line.
-fn print_size(rt: &impl Print, size: u64) {
-    let _ = print!(rt; "lookup {size}");
-}
-
-// A word after others.
-fn print_word(rt: &impl Print, word: u64) {
-    let _ = print!(rt; " {word:x}");
+    let (count, rest) = words.split_first()?;
+    rest.split_at_checked(*count as usize)
 }
 
 // A line with a size and the words that the lookup hands back for it.
-fn print_found<'a>(rt: &impl Print, first: &'a [u64], second: &'a [u64], size: u64) {
-    let found = lookup::of_size(first, second, size);
-    print_size(rt, size);
-    let mut i: usize = 0;
-    while i < found.len() {
-        print_word(rt, found[i]);
-        i += 1;
+fn print_found(rt: &impl Print, first: &[u64], second: &[u64], size: u64) {
+    let _ = print!(rt; "lookup {size}");
+    for word in lookup::of_size(first, second, size) {
+        let _ = print!(rt; " {word:x}");
     }
     let _ = println!(rt;);
 }
 
 // The lines of a record.
-fn answer_lists<'a>(rt: &impl Print, first: &'a [u64], second: &'a [u64]) {
-    print_found(rt, first, second, 0);
-    print_found(rt, first, second, 3);
-    print_found(rt, first, second, 4);
-    print_found(rt, first, second, 5);
-    print_found(rt, first, second, 6);
-    print_found(rt, first, second, 7);
-    print_found(rt, first, second, 8);
+fn answer_lists(rt: &impl Print, first: &[u64], second: &[u64]) {
+    for size in [0, 3, 4, 5, 6, 7, 8] {
+        print_found(rt, first, second, size);
+    }
 }
 
-// The number and the lines of the record that starts at a place, and where it ends; a broken one ends at the place itself.
-fn answer_record(rt: &impl Print, words: &[u64], from: usize, number: u64) -> usize
-    requires { from ≤ length words.now }
-    ensures { (from ≤ result) × (result ≤ length words.now) }
+// The number and the lines of the record that words start with, and what comes after it; a broken one is none.
+fn answer_record<'a>(rt: &impl Print, words: &'a [u64], number: u64) -> Option<&'a [u64]>
+    ensures { IfSome result (λ rest. length rest.now < length words.entry.now) }
 {
-    let middle = list_end(words, from);
-    if middle == from {
-        return from;
-    }
-    let end = list_end(words, middle);
-    if end == middle {
-        return from;
-    }
+    let (first, rest) = first_list(words)?;
+    let (second, rest) = first_list(rest)?;
     let _ = println!(rt; "{number}");
-    let first = from + 1;
-    let second = middle + 1;
-    answer_lists(rt, &words[first..middle], &words[second..end]);
-    end
+    answer_lists(rt, first, second);
+    Some(rest)
 }
 
 // What the lookup finds in each record, up to the first that is broken.
 fn answer_all(rt: &impl Print, words: &[u64]) {
     let mut number: u64 = 1;
-    let mut from: usize = 0;
-    let mut end = answer_record(rt, words, 0, number);
-    while from < end {
+    let mut rest = words;
+    while let Some(after) = answer_record(rt, rest, number) {
         number += 1;
-        from = end;
-        end = answer_record(rt, words, from, number);
+        rest = after;
     }
-    if from < words.len() {
+    if !rest.is_empty() {
         let _ = println!(rt; "{number} frame");
     }
 }
 
-// Reads until the list is full, the input ends or a read fails, and tells how many bytes were read.
-fn read_input(input: &mut impl Read, bytes: &mut [u8]) -> usize
-    ensures { result ≤ length bytes.new }
-{
-    let mut done: usize = 0;
-    while done < bytes.len() {
-        match input.read(&mut bytes[done..]) {
-            Ok(0) | Err(_) => break,
-            Ok(more) => done += more,
-        }
+// An input that ends where a read fails.
+#[derive(Drop)]
+struct ToFailure<R>(R);
+
+impl<R: Read> Read for ToFailure<R> {
+    fn read(&mut self, buf: &mut [u8]) -> io::Result<usize> {
+        Ok(self.0.read(buf).unwrap_or(0))
     }
-    done
 }
 
 fn main(rt: HostRuntime) {
     let mut bytes = [0u8; MOST_BYTES];
-    let count = read_input(&mut rt.stdin(), &mut bytes) / 8;
-    let words = words_of(&bytes);
-    answer_all(&rt, &words[0..count]);
+    let count = read_input(&mut ToFailure(rt.stdin()), &mut bytes).unwrap_or(0);
+    let words = words_of(&bytes[..count]);
+    answer_all(&rt, &words[..count / 8]);
 }

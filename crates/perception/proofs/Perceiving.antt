@@ -2,8 +2,7 @@
 -- and put in order, they are all rings.
 --     Added members m n a    a loop over m assemblies that adds up their sums: none below a has too many basis rings, and they have n sums
 -- Assumes nothing.
-use mathlib.Core.Path.{◌≡◌, refl, sym, ap, subst, ◌∙◌}
-use mathlib.Core.Logic.{◌≢◌}
+use mathlib.Core.Path.{◌≡◌, refl, sym, ap, ap₂, subst, ◌∙◌}
 use mathlib.Core.Bool.{Bool, true, false, cond}
 use mathlib.Core.List.{List, Memᴰ as In}
 use Prim.Native.Nat.{ℕ, zero, suc, ◌+◌, ◌-◌, ◌*◌, ◌%◌, ◌^◌, ◌<◌, ◌≤◌}
@@ -11,15 +10,13 @@ use native.Mathlib.Numerals.{add-one}
 use native.Mathlib.Nat.{le_antisymm}
 use native.Mathlib.Decide.{le_ind}
 use native.Mathlib.Omega.{arith}
-use lib.ListN.{length, get_or, replicate}
-use lib.Pow.{pow_pos, pow_mono}
-use lib.Dec.{ltb, eqb}
-use borrow.Author.Tests.{ltb-true, ltb-false, eqb-true, eqb-false}
+use lib.ListN.{length, get_or}
+use lib.Pow.{pow_mono}
+use lib.Dec.{ltb}
+use borrow.Author.Tests.{ltb-true, ltb-false}
 use Rattle.sets.specs.Bits.{size}
-use Rattle.sets.specs.Ring.{bits, no_rings}
-use Rattle.sets.specs.Lists.{words, sets_in}
-use Rattle.sets.proofs.Lists.{sets-blank}
-use Rattle.sets.proofs.Machine.{one_shl, no_rings_lem}
+use Rattle.sets.specs.Lists.{sets_in}
+use Rattle.sets.proofs.Machine.{one_shl}
 use Rattle.definitions.specs.Search.{Each, Some, some?, listed, total, sort}
 use Rattle.definitions.specs.Table.{Table, max_bonds, TANGLED}
 use Rattle.definitions.specs.Basis.{basis_rings}
@@ -27,20 +24,27 @@ use Rattle.definitions.specs.Assembly.{rings_in, max_assembly, tangled?}
 use Rattle.definitions.specs.AllRings.{before, all_rings}
 use Rattle.definitions.specs.Answer.{refusal_of_rings}
 use Rattle.definitions.proofs.Tests.{by, some_ext, Tells, true_of, false_of, tells_ltb, tells_some}
-use Rattle.definitions.proofs.Lists.{listed_ext, length-gather, get_or-same}
+use Rattle.definitions.proofs.Lists.{listed_ext, length-gather}
 use Rattle.definitions.proofs.Refusals.{Valid, accepted, rings-kept, rings-free, rings-accepted}
 use Rattle.definitions.proofs.Linking.{rings-total}
 use Rattle.cycles.proofs.BasisList.{even-sums}
 use Rattle.cycles.proofs.Bound.{most_rings, total-last, total_share, sums_share}
-use Rattle.basis.specs.Held.{rings_of, Holds, BasisOf, members_of, AssembliesOf}
+use Rattle.std.proofs.Common.{Result, Ok, Err, IfOk}
+use Rattle.std.specs.Result.{IsErrAnd}
+use Rattle.std.proofs.lemmas.Result.{err_from_is_err_and}
+use Rattle.answers.specs.Told.{number_of, code_of}
+use Rattle.answers.specs.declared.refusal.Refusal.{Refusal}
+use Rattle.answers.specs.declared.refusal.Refusal.TheVariants.{Tangled}
+use Rattle.answers.proofs.Answers.{number-some}
+use Rattle.basis.specs.Held.{rings_of, BasisOf, Assemblies, members_of, AssembliesOf}
 use Rattle.basis.specs.declared.basis.Basis.{Basis}
-use Rattle.basis.specs.declared.assembly.Assemblies.{Assemblies}
-use Rattle.basis.proofs.Holding.{basis_held, SameRings, SameAssemblies, holds_same, assemblies-same, members-at, held_assemblies, members-size, picked_all}
+use Rattle.arrayvec.specs.ArrayVec.{array_vec_len}
+use Rattle.basis.proofs.Holding.{SameRings, SameAssemblies, holds_same, assemblies-same, held_assemblies, members-length, members-size, picked_all}
 use Rattle.combining.specs.Gibbs.{combined, found_at, found_in}
 use Rattle.combining.proofs.Turns.{found-few}
 use Rattle.combining.proofs.Exactly.{all_combined, all_combined_in, all_combined_lem}
 use Rattle.choosing.specs.Elimination.{Spanned}
-use Rattle.perception.specs.Perceiving.{sums_in, Nothing, Refused, Accepted, Perceives}
+use Rattle.perception.specs.Perceiving.{sums_in, Accepted, Perceives}
 use Rattle.perception.specs.declared.Perceived.{Perceived}
 
 -- ---- too many of them
@@ -60,10 +64,10 @@ tells_too_many : (members : List ℕ) (n : ℕ)
 tells_too_many members n = tells_some (λ a. tells_ltb _ _) n
 
 -- the test of the assemblies is that of the table
-tangled_test : (M : Table) {s : Assemblies} → AssembliesOf (basis_rings M) s → tangled_in (members_of s) s.count ≡ tangled? M
+tangled_test : (M : Table) {s : Assemblies} → AssembliesOf (basis_rings M) s → tangled_in (members_of s) (array_vec_len s) ≡ tangled? M
 unfolding tangled?
 tangled_test M {s} h =
-    some_ext s.count _ (λ a. ltb max_assembly (length (rings_in (basis_rings M) a))) (λ a l. ap (ltb max_assembly) (members-size h a l))
+    some_ext (array_vec_len s) _ (λ a. ltb max_assembly (length (rings_in (basis_rings M) a))) (λ a l. ap (ltb max_assembly) (members-size h a l))
     ∙ ap (λ (n : ℕ). some? n (λ a. ltb max_assembly (length (rings_in (basis_rings M) a)))) h.count
 
 -- ---- how many sums the assemblies have
@@ -109,10 +113,6 @@ module _ {members : List ℕ} {m n a k : ℕ} (d : Added members m n a) (l : a <
     moved : (1 * 2 ^ k) % 2 ^ 64 ≡ 2 ^ k
     moved = one_shl 64 k (omega arith)
 
-    -- one of its sums is empty
-    pub added_empty : 1 ≤ (1 * 2 ^ k) % 2 ^ 64
-    added_empty = omega (arith, moved, pow_pos k)
-
     -- so many are the others, and the number is no more than a word holds
     pub added_fits : m ≤ max_bonds → n + ((1 * 2 ^ k) % 2 ^ 64 - 1) < 2 ^ 64
     added_fits counted = omega (arith, moved, pow_mono few, d.sum, sums-few members a d.small)
@@ -155,114 +155,84 @@ all_found-most rings members n small = omega (arith, all_found-few rings members
 
 -- ---- the answers
 
--- lists of empty sets hold nothing
-pub nothing_held : {number : ℕ} → Nothing (record { number = number; rings = replicate (max_bonds * words) 0; count = 0 }) (record { members = replicate max_bonds no_rings; count = 0 })
-nothing_held = record {
-  rings = refl;
-  sets = λ i. ap (λ (l : List ℕ). get_or l i 0) (sets-blank max_bonds) ∙ get_or-same max_bonds i 0;
-  assemblies = refl;
-  members = λ a. members-at (replicate max_bonds no_rings) a ∙ ap bits (get_or-same max_bonds a no_rings) ∙ no_rings_lem;
-}
+-- the table is refused, and that is passed on
+pub perceives_refused : {M : Table} (r : Result Perceived Refusal) (e : Refusal) → BasisOf M (Err e) → IsErrAnd r (λ d. d ≡ e) → Perceives M r
+perceives_refused {M} r e basis same =
+    let p = err_from_is_err_and r same in
+    let kept : number_of e ≡ refusal_of_rings M = basis.number ∙ sym (rings-kept M (λ z. absurd (omega (arith, basis.number, number-some e)))) in
+    rw (p.1, p.2) (let told : Perceives M (Err e) = record { number = kept; worked = tt } in told)
 
--- the table is refused
-pub perceives_refused : {M : Table} {b : Basis} {p : Perceived} → BasisOf M b → 0 < b.number → Refused b.number p → Perceives M p
-perceives_refused {M} {b} {p} basis h r =
-    let kept : b.number ≡ refusal_of_rings M = basis.number ∙ sym (rings-kept M (λ z. absurd (omega (arith, basis.number)))) in
-    record { number = r.number ∙ kept; refused = λ n. subst (λ c. Refused c p) kept r; accepted = λ z. absurd (omega arith) }
-
-module _ {M : Table} {b : Basis} {s : Assemblies} (basis : BasisOf M b) (zero : b.number ≤ 0) (h : AssembliesOf (rings_of b) s)
+module _ {M : Table} {b : Basis} {s : Assemblies} (basis : BasisOf M (Ok b)) (h : AssembliesOf (rings_of b) s)
   where
-    held : Holds M b
-    held = basis_held basis zero
-
     -- the assemblies alone decide
-    decided : {c : Bool} → tangled_in (members_of s) s.count ≡ c → refusal_of_rings M ≡ cond c TANGLED 0
-    decided e = rings-free M (omega (arith, basis.number)) ∙ ap (λ c. cond c TANGLED 0) (sym (tangled_test M (held_assemblies held h)) ∙ e)
+    decided : {c : Bool} → tangled_in (members_of s) (array_vec_len s) ≡ c → refusal_of_rings M ≡ cond c TANGLED 0
+    decided e = rings-free M (sym basis.number) ∙ ap (λ c. cond c TANGLED 0) (sym (tangled_test M (held_assemblies basis.rings h)) ∙ e)
 
     -- an assembly has too many basis rings
-    pub perceives_tangled : {p : Perceived} → tangled_in (members_of s) s.count ≡ true → Refused TANGLED p → Perceives M p
-    perceives_tangled {p} q r =
-        let e : TANGLED ≡ refusal_of_rings M = sym (decided q) in
-        record { number = r.number ∙ e; refused = λ n. subst (λ c. Refused c p) e r; accepted = λ z. absurd (omega arith) }
+    pub perceives_tangled : tangled_in (members_of s) (array_vec_len s) ≡ true → Perceives M (Err Tangled)
+    perceives_tangled q = record { number = sym (decided q); worked = tt }
 
     -- none has
-    pub perceives_all : {n : ℕ} → tangled_in (members_of s) s.count ≡ false → n ≡ sums_in (members_of s) s.count → Perceives M (record { number = 0; basis = b; assemblies = s; sums = n })
+    pub perceives_all : {n : ℕ} → tangled_in (members_of s) (array_vec_len s) ≡ false → n ≡ sums_in (members_of s) (array_vec_len s) → Perceives M (Ok (record { basis = b; assemblies = s; sums = n }))
     perceives_all q e = record {
       number = sym (decided q);
-      refused = λ n. absurd (n (decided q));
-      accepted = λ z. record { clear = omega arith; basis = held; assemblies = held_assemblies held h; sums = e };
+      worked = record { basis = basis.rings; assemblies = held_assemblies basis.rings h; sums = e };
     }
 
 -- ---- one outcome only
 
 -- two of which nothing differs
 pub record Same (p q : Perceived) : Type 0 where
-  pub number : p.number ≡ q.number
-  pub basis : (p.basis.number ≡ q.basis.number) × SameRings p.basis q.basis
+  pub basis : SameRings p.basis q.basis
   pub assemblies : SameAssemblies p.assemblies q.assemblies
   pub sums : p.sums ≡ q.sums
 
 -- as many assemblies with the same sets have as many sums
-sums_same : (s t : Assemblies) → SameAssemblies s t → sums_in (members_of s) s.count ≡ sums_in (members_of t) t.count
-sums_same s t (count, members) =
-    ap total (listed_ext s.count (λ a. true) (λ a. true) (sums_at (members_of s)) (sums_at (members_of t)) (λ a l. refl) (λ a l h. ap (λ (m : ℕ). 2 ^ size m - 1) (members a)))
-    ∙ ap (sums_in (members_of t)) count
+sums_same : (s t : Assemblies) → SameAssemblies s t → sums_in (members_of s) (array_vec_len s) ≡ sums_in (members_of t) (array_vec_len t)
+sums_same s t same = ap₂ sums_in same (sym (members-length s) ∙ ap length same ∙ members-length t)
 
 -- what two calls work out of one table differs in nothing
-pub perceives_same : {M : Table} {p q : Perceived} → Perceives M p → Perceives M q → Same p q
-perceives_same {M} {p} {q} h k = by (eqb (refusal_of_rings M) 0) (λ t. both (eqb-true (refusal_of_rings M) 0 t)) (λ t. none (eqb-false (refusal_of_rings M) 0 t))
+pub perceives_same : {M : Table} {p : Result Perceived Refusal} {q : Result Perceived Refusal} → Perceives M p → Perceives M q
+    → (code_of p ≡ code_of q) × IfOk p (λ a. IfOk q (Same a))
+perceives_same {M = M} {p = Ok a} {q = Ok b} h k = (h.number ∙ sym k.number, both)
   where
-    number : p.number ≡ q.number
-    number = h.number ∙ sym k.number
+    parts : SameAssemblies a.assemblies b.assemblies
+    parts = assemblies-same h.worked.assemblies k.worked.assemblies
 
-    both : refusal_of_rings M ≡ 0 → Same p q
-    both z =
-        let a = h.accepted z in
-        let b = k.accepted z in
-        let parts = assemblies-same a.assemblies b.assemblies in
-        record {
-          number = number;
-          basis = (a.clear ∙ sym b.clear, holds_same a.basis b.basis);
-          assemblies = parts;
-          sums = a.sums ∙ sums_same p.assemblies q.assemblies parts ∙ sym b.sums;
-        }
-
-    none : refusal_of_rings M ≢ 0 → Same p q
-    none n =
-        let a = h.refused n in
-        let b = k.refused n in
-        record {
-          number = number;
-          basis = (a.same ∙ sym b.same, (a.nothing.rings ∙ sym b.nothing.rings, λ i. a.nothing.sets i ∙ sym (b.nothing.sets i)));
-          assemblies = (a.nothing.assemblies ∙ sym b.nothing.assemblies, λ i. a.nothing.members i ∙ sym (b.nothing.members i));
-          sums = a.sums ∙ sym b.sums;
-        }
+    both : Same a b
+    both = record {
+      basis = holds_same h.worked.basis k.worked.basis;
+      assemblies = parts;
+      sums = h.worked.sums ∙ sums_same a.assemblies b.assemblies parts ∙ sym k.worked.sums;
+    }
+perceives_same {M = M} {p = Ok a} {q = Err e} h k = (h.number ∙ sym k.number, tt)
+perceives_same {M = M} {p = Err d} {q = q} h k = (h.number ∙ sym k.number, tt)
 
 -- ---- what is worked out of an accepted table
 
-module _ {M : Table} {p : Perceived} (seen : Perceives M p) (zero : p.number ≤ 0) where
+module _ {M : Table} {p : Perceived} (seen : Perceives M (Ok p)) where
   -- nothing is refused
   pub unrefused : refusal_of_rings M ≡ 0
-  unrefused = omega (arith, seen.number)
+  unrefused = sym seen.number
 
   -- it is worked out
   pub perceived : Accepted M p
-  perceived = seen.accepted unrefused
+  perceived = seen.worked
 
   -- the table is valid
   pub perceived_valid : Valid M
   perceived_valid = (accepted M).0 ((rings-accepted M).0 unrefused).0
 
   -- the assemblies are small
-  pub perceived_small : Small (members_of p.assemblies) p.assemblies.count
+  pub perceived_small : Small (members_of p.assemblies) (array_vec_len p.assemblies)
   perceived_small = record {
     counted = perceived.assemblies.counted;
-    small = (tells_too_many (members_of p.assemblies) p.assemblies.count).no_says (tangled_test M perceived.assemblies ∙ ((rings-accepted M).0 unrefused).1);
+    small = (tells_too_many (members_of p.assemblies) (array_vec_len p.assemblies)).no_says (tangled_test M perceived.assemblies ∙ ((rings-accepted M).0 unrefused).1);
   }
 
   -- what the combination finds in them
   abbrev found : List ℕ
-  found = found_in (sets_in p.basis.rings) (members_of p.assemblies) p.assemblies.count
+  found = found_in (sets_in p.basis.rings) (members_of p.assemblies) (array_vec_len p.assemblies)
 
   -- it finds in those of the basis rings of the table
   found_all : found ≡ all_combined (basis_rings M)
@@ -270,11 +240,11 @@ module _ {M : Table} {p : Perceived} (seen : Perceives M p) (zero : p.number ≤
   found_all = picked_all perceived.basis perceived.assemblies combined
 
   -- in order it is all rings
-  pub perceived_found : sort before (found_in (sets_in p.basis.rings) (members_of p.assemblies) p.assemblies.count) ≡ all_rings M
+  pub perceived_found : sort before (found_in (sets_in p.basis.rings) (members_of p.assemblies) (array_vec_len p.assemblies)) ≡ all_rings M
   perceived_found = ap (sort before) found_all ∙ all_combined_lem perceived_valid
 
   -- each of it is a sum of the basis rings
-  pub perceived_spanned : Spanned p.basis.count (found_in (sets_in p.basis.rings) (members_of p.assemblies) p.assemblies.count)
+  pub perceived_spanned : Spanned p.basis.count (found_in (sets_in p.basis.rings) (members_of p.assemblies) (array_vec_len p.assemblies))
   perceived_spanned = (
     basis_rings M,
     sym perceived.basis.count,
@@ -282,17 +252,17 @@ module _ {M : Table} {p : Perceived} (seen : Perceives M p) (zero : p.number ≤
   )
 
   -- a list that is longer than they have sums which are not empty has room for the sums of each
-  pub perceived_room : {n : ℕ} → p.sums < n → (a : ℕ) → a < p.assemblies.count → 2 ^ size (get_or (members_of p.assemblies) a 0) ≤ n
+  pub perceived_room : {n : ℕ} → p.sums < n → (a : ℕ) → a < array_vec_len p.assemblies → 2 ^ size (get_or (members_of p.assemblies) a 0) ≤ n
   perceived_room h a l =
       let members = members_of p.assemblies in
-      omega (arith, perceived.sums, sums_next members a, sums_mono members (a + 1) p.assemblies.count (omega arith))
+      omega (arith, perceived.sums, sums_next members a, sums_mono members (a + 1) (array_vec_len p.assemblies) (omega arith))
 
   -- they have no more sums than those of any table
-  pub perceived_most : sums_in (members_of p.assemblies) p.assemblies.count ≤ most_rings
+  pub perceived_most : sums_in (members_of p.assemblies) (array_vec_len p.assemblies) ≤ most_rings
   perceived_most =
       omega (
         arith,
-        total_share max_assembly (2 ^ max_assembly - 1) p.assemblies.count (sums_at members) (λ a. size (get_or members a 0))
+        total_share max_assembly (2 ^ max_assembly - 1) (array_vec_len p.assemblies) (sums_at members) (λ a. size (get_or members a 0))
             (λ a l. sums_share (size (get_or members a 0)) (perceived_small.small a l)),
         held,
         perceived.basis.count,
@@ -302,8 +272,8 @@ module _ {M : Table} {p : Perceived} (seen : Perceives M p) (zero : p.number ≤
       members : List ℕ
       members = members_of p.assemblies
 
-      held : total (listed p.assemblies.count (λ a. true) (λ a. size (get_or members a 0))) ≡ length (basis_rings M)
+      held : total (listed (array_vec_len p.assemblies) (λ a. true) (λ a. size (get_or members a 0))) ≡ length (basis_rings M)
       held =
-          ap total (listed_ext p.assemblies.count (λ a. true) (λ a. true) (λ a. size (get_or members a 0)) (λ a. length (rings_in (basis_rings M) a)) (λ a l. refl) (λ a l t. members-size perceived.assemblies a l))
+          ap total (listed_ext (array_vec_len p.assemblies) (λ a. true) (λ a. true) (λ a. size (get_or members a 0)) (λ a. length (rings_in (basis_rings M) a)) (λ a l. refl) (λ a l t. members-size perceived.assemblies a l))
           ∙ ap (λ n. total (listed n (λ a. true) (λ a. length (rings_in (basis_rings M) a)))) perceived.assemblies.count
           ∙ rings-total (basis_rings M)

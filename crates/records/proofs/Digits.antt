@@ -1,27 +1,20 @@
--- Numbers in decimal and bytes in hex: the digits that a number is printed as are those of the definition; how many there are.
+-- Numbers in decimal and bytes in hex: the digits that the libraries print are those of the definition; how many there are.
 -- Assumes nothing.
 use mathlib.Core.Path.{◌≡◌, refl, sym, ap, ◌∙◌}
 use mathlib.Core.List.{List, [], ◌∷◌, ◌++◌}
 use Prim.Native.Nat.{ℕ, zero, suc, ◌+◌, ◌*◌, ◌/◌, ◌%◌, ◌^◌, ◌<◌, ◌≤◌}
 use native.Mathlib.Nat.{pow-suc}
 use native.Mathlib.Omega.{arith}
-use lib.Dec.{ltb}
-use lib.ListN.{length, get_or, take}
-use lib.Seq.{take-suc}
-use borrow.Author.Tests.{lt-ltb, le-ltb, ltb-true, ltb-false}
+use lib.Dec.{eqb, ltb}
+use lib.ListN.{length, get_or}
+use borrow.Author.Tests.{eqb-true, lt-ltb, le-ltb, ltb-true, ltb-false}
 use Rattle.std.specs.Fmt.{decimal as printed}
 use Rattle.std.proofs.lemmas.Fmt.{AppendsLastDigit, decimal_from_appends, length-decimal-le_succ}
-use Rattle.definitions.specs.Search.{gather}
+use Rattle.hex.specs.Hex.{lower_digits, encode_with, encode_lower}
+use Rattle.definitions.specs.Search.{every}
 use Rattle.definitions.specs.Text.{glyph, decimal_in, decimal, hex}
-use Rattle.definitions.proofs.Tests.{by}
+use Rattle.definitions.proofs.Tests.{by, every-at}
 use Rattle.definitions.proofs.Lists.{length_snoc}
-
--- a digit below ten, and one from ten on
-pub glyph_low : (d : ℕ) → d < 10 → 48 + d ≡ glyph d
-glyph_low d h = rw (lt-ltb d 10 h, glyph)
-
-pub glyph_high : (d : ℕ) → 10 ≤ d → 87 + d ≡ glyph d
-glyph_high d h = rw (le-ltb d 10 h, glyph)
 
 -- ---- decimal
 
@@ -35,11 +28,15 @@ in_large : (n x : ℕ) → 10 ≤ x → decimal_in (suc n) x ≡ decimal_in n (x
 unfolding decimal_in
 in_large n x h = rw (le-ltb x 10 h, decimal_in)
 
+-- a digit below ten
+low : (d : ℕ) → d < 10 → 48 + d ≡ glyph d
+low d h = rw (lt-ltb d 10 h, glyph)
+
 -- each step of the definition appends the last digit
 appends : AppendsLastDigit decimal_in
 appends = record {
-  one = λ k n h. in_small k n h ∙ ap (λ (d : ℕ). d ∷ []) (sym (glyph_low n h));
-  more = λ k n h. in_large k n h ∙ ap (λ (d : ℕ). decimal_in k (n / 10) ++ (d ∷ [])) (sym (glyph_low (n % 10) (omega arith)));
+  one = λ k n h. in_small k n h ∙ ap (λ (d : ℕ). d ∷ []) (sym (low n h));
+  more = λ k n h. in_large k n h ∙ ap (λ (d : ℕ). decimal_in k (n / 10) ++ (d ∷ [])) (sym (low (n % 10) (omega arith)));
 }
 
 -- so it is what a number is printed as
@@ -71,18 +68,18 @@ decimal-most k x h l = in_most k (x + 1) x h l
 
 -- ---- hex
 
--- the bytes of a list in hex are gathered from those of each
-pub hex-gather : (l : List ℕ) (k : ℕ) → k ≤ length l → hex (take k l) ≡ gather k (λ i. hex (get_or l i 0 ∷ []))
-unfolding hex gather
-hex-gather l zero h = refl
-hex-gather l (suc k) h =
-    ap hex (take-suc l k 0 h)
-    ∙ snoc (take k l) (get_or l k 0)
-    ∙ ap (λ (t : List ℕ). t ++ hex (get_or l k 0 ∷ [])) (hex-gather l k (omega arith))
-  where
-    snoc : (l : List ℕ) (x : ℕ) → hex (l ++ (x ∷ [])) ≡ hex l ++ hex (x ∷ [])
-    snoc [] x = refl
-    snoc (y ∷ l) x = ap (λ (t : List ℕ). glyph (y / 16) ∷ glyph (y % 16) ∷ t) (snoc l x)
+-- the library's table has the digits of the definition
+glyph_at : (d : ℕ) → d < 16 → get_or lower_digits d 0 ≡ glyph d
+unfolding every
+glyph_at d h = eqb-true _ _ (every-at 16 (λ d. eqb (get_or lower_digits d 0) (glyph d)) refl d h)
+
+-- so the library's hex of bytes is that of the definition
+pub encoded-hex : (l : List ℕ) → ((i : ℕ) → get_or l i 0 < 256) → encode_lower l ≡ hex l
+unfolding hex encode_with
+encoded-hex [] h = refl
+encoded-hex (b ∷ l) h =
+    let low : b < 256 = h 0 in
+    rw (glyph_at (b / 16) (omega arith), glyph_at (b % 16) (omega arith)) (ap (λ (t : List ℕ). glyph (b / 16) ∷ glyph (b % 16) ∷ t) (encoded-hex l (λ i. h (suc i))))
 
 -- two digits a byte
 pub length-hex : (l : List ℕ) → length (hex l) ≡ 2 * length l

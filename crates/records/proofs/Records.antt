@@ -1,33 +1,42 @@
 -- When a list starts with a whole record. Assumes nothing.
-use mathlib.Core.Path.{◌≡◌, ◌∙◌}
-use mathlib.Core.Bool.{true, false, ◌&&◌, and_assoc}
+use mathlib.Core.Path.{◌≡◌, refl, sym}
+use mathlib.Core.Bool.{true, false}
 use mathlib.Core.List.{List}
-use Prim.Native.Nat.{ℕ, ◌<◌, ◌≤◌}
+use Prim.Native.Nat.{ℕ, ◌≤◌}
 use lib.Dec.{eqb, leb}
 use lib.ListN.{length, get_or}
-use borrow.Author.Tests.{le-leb, lt-leb, leb-true}
+use borrow.Author.Tests.{le-leb, leb-true, eq-eqb, eqb-true}
 use Rattle.definitions.specs.Records.{length_at, head_bytes, record_bytes, atoms_tag, bonds_tag, whole?}
-use Rattle.definitions.proofs.Tests.{and_both}
+use Rattle.definitions.proofs.Tests.{by, and_both}
 
--- fewer bytes than a record has before its bonds are no record
-pub whole_short : (bs : List ℕ) → length bs < head_bytes → false ≡ whole? bs
-unfolding whole?
-whole_short bs h = rw (lt-leb head_bytes (length bs) h)
+-- both tags, the one byte of field 10, and all bytes of field 11
+pub record Whole (bs : List ℕ) : Type 0 where
+  pub long : head_bytes ≤ length bs
+  pub atoms : get_or bs 0 0 ≡ atoms_tag
+  pub one : length_at bs 1 ≡ 1
+  pub bonds : get_or bs 4 0 ≡ bonds_tag
+  pub fits : record_bytes bs ≤ length bs
 
--- of a list that is long enough the other four tests say it
-pub whole_test : (bs : List ℕ) {l r : ℕ} → head_bytes ≤ length bs → l ≡ length_at bs 1 → r ≡ record_bytes bs
-    → ((eqb (get_or bs 0 0) atoms_tag && eqb l 1) && eqb (get_or bs 4 0) bonds_tag) && leb r (length bs) ≡ whole? bs
+-- a list with these starts with a whole record
+pub whole_by : {bs : List ℕ} → Whole bs → true ≡ whole? bs
 unfolding whole?
-whole_test bs {l} {r} h p q =
-    let a = eqb (get_or bs 0 0) atoms_tag in
-    let b = eqb (length_at bs 1) 1 in
-    let c = eqb (get_or bs 4 0) bonds_tag in
-    let d = leb (record_bytes bs) (length bs) in
-    rw (p, q, le-leb head_bytes (length bs) h) (and_assoc (a && b) c d ∙ and_assoc a b (c && d))
+whole_by {bs} w =
+    rw (le-leb _ _ w.long, eq-eqb _ _ w.atoms, eq-eqb _ _ w.one, eq-eqb _ _ w.bonds, le-leb _ _ w.fits) refl
+
+-- a whole record has them
+whole_has : (bs : List ℕ) → whole? bs ≡ true → Whole bs
+unfolding whole?
+whole_has bs e =
+    let a = and_both (leb head_bytes (length bs)) _ e in
+    let b = and_both (eqb (get_or bs 0 0) atoms_tag) _ a.1 in
+    let c = and_both (eqb (length_at bs 1) 1) _ b.1 in
+    let d = and_both (eqb (get_or bs 4 0) bonds_tag) _ c.1 in
+    record { long = leb-true _ _ a.0; atoms = eqb-true _ _ b.0; one = eqb-true _ _ c.0; bonds = eqb-true _ _ d.0; fits = leb-true _ _ d.1 }
+
+-- so where one is missing there is no whole record
+pub whole_not : (bs : List ℕ) → (Whole bs → ⊥) → false ≡ whole? bs
+whole_not bs f = by (whole? bs) (λ e. absurd (f (whole_has bs e))) sym
 
 -- a whole record lies within the list
 pub whole-fits : (bs : List ℕ) → whole? bs ≡ true → record_bytes bs ≤ length bs
-unfolding whole?
-whole-fits bs e =
-    leb-true (record_bytes bs) (length bs)
-    (and_both (eqb (get_or bs 4 0) bonds_tag) _ (and_both (eqb (length_at bs 1) 1) _ (and_both (eqb (get_or bs 0 0) atoms_tag) _ (and_both (leb head_bytes (length bs)) _ e).1).1).1).1
+whole-fits bs e = (whole_has bs e).fits

@@ -1,2 +1,3 @@
--- The definition that the contracts of this crate cite beside those of `definitions` and `lent`.
+-- The definitions that the contracts of this crate cite beside those of `definitions` and `lent`.
+pub mod Filled
 pub mod Spaced

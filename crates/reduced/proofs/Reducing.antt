@@ -1,13 +1,12 @@
 -- What is picked of the basis rings by the sets of the assemblies, each reduced, is the reduced basis; what a Reduced holds. Assumes nothing.
-use mathlib.Core.Path.{◌≡◌, refl, sym, ap, ap₂, ◌∙◌}
+use mathlib.Core.Path.{◌≡◌, sym, ap, ap₂, ◌∙◌}
 use mathlib.Core.List.{List}
-use Prim.Native.Nat.{ℕ, ◌≤◌, ◌<◌}
+use Prim.Native.Nat.{ℕ, ◌≤◌}
 use native.Mathlib.Omega.{arith}
-use lib.ListN.{length, get_or, take, drop, replicate, length-append, length-replicate}
+use lib.ListN.{length, take, drop, replicate, length-append, length-replicate}
 use lib.Seq.{take-append_seam}
-use Rattle.sets.specs.Ring.{bits, no_rings}
 use Rattle.sets.specs.Lists.{sets_in}
-use Rattle.definitions.specs.Search.{gather, picked}
+use Rattle.definitions.specs.Search.{gather}
 use Rattle.definitions.specs.Table.{Table, refusal, max_bonds}
 use Rattle.definitions.specs.Basis.{basis_rings}
 use Rattle.definitions.specs.Assembly.{assembly_count, rings_in}
@@ -15,17 +14,14 @@ use Rattle.definitions.specs.Answer.{over}
 use Rattle.definitions.specs.Reduced.{reduced, reduced_basis}
 use Rattle.definitions.proofs.Linking.{length_assembled}
 use Rattle.basis.specs.declared.basis.Basis.{Basis}
-use Rattle.basis.specs.declared.assembly.Assemblies.{Assemblies}
-use Rattle.basis.specs.Held.{rings_of, Holds, members_of, AssembliesOf}
-use Rattle.basis.proofs.Holding.{held_assemblies, members-at, picked_all}
+use Rattle.arrayvec.specs.ArrayVec.{array_vec_len}
+use Rattle.basis.specs.Held.{rings_of, Assemblies, Holds, members_of, AssembliesOf}
+use Rattle.basis.proofs.Holding.{held_assemblies, picked_all}
 use Rattle.reduced.specs.Picked.{picked_by}
+use Rattle.std.proofs.Common.{Ok}
 use Rattle.reduced.specs.Reduces.{Reduces}
 use Rattle.reduced.specs.declared.Reduced.{Reduced}
 use Rattle.reduced.proofs.Gathering.{gather-reduced-length}
-
--- the set at place a of the assemblies picks
-pub picked-at : (rings : List ℕ) (s : Assemblies) (a : ℕ) → picked rings (bits (get_or s.members a no_rings)) ≡ picked_by rings (members_of s) a
-picked-at rings s a = ap (picked rings) (sym (members-at s.members a))
 
 -- the reduced basis has as many sets as there are basis rings
 pub reduced-counted : (M : Table) {n : ℕ} → n ≡ length (basis_rings M) → n ≡ length (reduced_basis M)
@@ -35,43 +31,32 @@ reduced-counted M e = e ∙ sym (gather-reduced-length (assembly_count (basis_ri
 module _ {M : Table} {b : Basis} {s : Assemblies} (basis : Holds M b) (parts : AssembliesOf (rings_of b) s) where
   -- what is picked fits where there is a place for each bond
   pub picked_fits : (blank : List ℕ) → sets_in blank ≡ replicate max_bonds 0
-      → (s.count ≤ max_bonds) × (length (gather s.count (picked_by (sets_in b.rings) (members_of s))) ≤ length (sets_in blank))
+      → length (gather (array_vec_len s) (picked_by (sets_in b.rings) (members_of s))) ≤ length (sets_in blank)
   picked_fits blank none =
       let places : length (sets_in blank) ≡ max_bonds = ap length none ∙ length-replicate {A = ℕ} max_bonds 0 in
       let all = ap length (picked_all basis (held_assemblies basis parts) (λ (l : List ℕ). l)) ∙ length_assembled (basis_rings M) in
-      (parts.counted, omega (arith, all, basis.count, basis.counted))
+      omega (arith, all, basis.count, basis.counted)
 
   -- each reduced, they are the reduced basis
-  picked-reduced : gather s.count (λ a. reduced (picked_by (sets_in b.rings) (members_of s) a)) ≡ reduced_basis M
+  picked-reduced : gather (array_vec_len s) (λ a. reduced (picked_by (sets_in b.rings) (members_of s) a)) ≡ reduced_basis M
   unfolding reduced_basis
   picked-reduced = picked_all basis (held_assemblies basis parts) reduced
 
   -- an accepted table: the reduced basis is handed back
-  pub reduces_accepted : {n : ℕ} → n ≡ refusal M → n ≤ 0 → (blank ws : List ℕ) → sets_in blank ≡ replicate max_bonds 0
-      → sets_in ws ≡ over (gather s.count (λ a. reduced (picked_by (sets_in b.rings) (members_of s) a))) (sets_in blank)
-      → Reduces M (record { number = 0; sets = ws; count = b.count })
-  reduces_accepted given h blank ws none list = record {
-    number = omega arith;
-    refused = λ no. absurd (no (omega arith));
-    accepted = λ z. (reduced-counted M basis.count, list ∙ ap₂ over picked-reduced none);
-  }
-
--- a refused table: no sets are handed back
-pub reduces_refused : {M : Table} {n : ℕ} → n ≡ refusal M → 0 < n → (ws : List ℕ) → sets_in ws ≡ replicate max_bonds 0 → Reduces M (record { number = n; sets = ws; count = 0 })
-reduces_refused given h ws none = record { number = given; refused = λ no. (refl, none); accepted = λ z. absurd (omega arith) }
+  pub reduces_accepted : 0 ≡ refusal M → (blank ws : List ℕ) → sets_in blank ≡ replicate max_bonds 0
+      → sets_in ws ≡ over (gather (array_vec_len s) (λ a. reduced (picked_by (sets_in b.rings) (members_of s) a))) (sets_in blank)
+      → Reduces M (Ok (record { sets = ws; count = b.count }))
+  reduces_accepted given blank ws none list = record { number = given; count = reduced-counted M basis.count; sets = list ∙ ap₂ over picked-reduced none }
 
 -- ---- what is handed back of an accepted table
 
-module _ {M : Table} {r : Reduced} (h : Reduces M r) (ok : r.number ≤ 0) where
-  held : (r.count ≡ length (reduced_basis M)) × (sets_in r.sets ≡ over (reduced_basis M) (replicate max_bonds 0))
-  held = h.accepted (omega (arith, h.number))
-
+module _ {M : Table} {r : Reduced} (h : Reduces M (Ok r)) where
   -- the sets that are counted are there
   pub reduces_room : r.count ≤ length (sets_in r.sets)
   unfolding over
-  reduces_room = omega (arith, held.0, ap length held.1 ∙ length-append (reduced_basis M) (drop (length (reduced_basis M)) (replicate max_bonds 0)))
+  reduces_room = omega (arith, h.count, ap length h.sets ∙ length-append (reduced_basis M) (drop (length (reduced_basis M)) (replicate max_bonds 0)))
 
   -- and are the reduced basis
   pub reduces_sets : take r.count (sets_in r.sets) ≡ reduced_basis M
   unfolding over
-  reduces_sets = ap₂ take held.0 held.1 ∙ take-append_seam (reduced_basis M) (drop (length (reduced_basis M)) (replicate max_bonds 0))
+  reduces_sets = ap₂ take h.count h.sets ∙ take-append_seam (reduced_basis M) (drop (length (reduced_basis M)) (replicate max_bonds 0))

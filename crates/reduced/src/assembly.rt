@@ -6,6 +6,7 @@ ghost use Rattle.definitions.specs.Search.{gather, picked};
 ghost use Rattle.definitions.specs.Table.{max_bonds};
 ghost use Rattle.definitions.specs.Answer.{over};
 ghost use Rattle.definitions.specs.Reduced as spec;
+ghost use Rattle.arrayvec.specs.ArrayVec.{array_vec_len};
 ghost use Rattle.basis.specs.Held.{members_of};
 ghost use Rattle.reduced.specs.Picked.{picked_by};
 
@@ -22,11 +23,9 @@ fn write_members(rings: &[u64; BASIS_WORDS], members: RingSet, out: &mut [u64]) 
     ensures list { sets_in out.new ≡ over (picked (sets_in rings.now) (bits members)) (sets_in out.old) }
 {
     let mut n: usize = 0;
-    let mut i = members.next(0);
-    while i <= RingSet::LAST {
+    for i in members {
         BondSet::at(rings, i).put_at(out, n);
         n += 1;
-        i = members.next(i + 1);
     }
     n
 }
@@ -45,13 +44,13 @@ fn reduce_assembly(rings: &[u64; BASIS_WORDS], members: RingSet, out: &mut [u64]
 }
 
 // The reduced sets of the assemblies, one assembly after another.
-pub(crate) fn reduce_all(rings: &[u64; BASIS_WORDS], found: Assemblies, out: &mut [u64])
-    requires { (found.count ≤ max_bonds) × (length (gather found.count (picked_by (sets_in rings.now) (members_of found))) ≤ length (sets_in out.old)) }
+pub(crate) fn reduce_all(rings: &[u64; BASIS_WORDS], found: &Assemblies, out: &mut [u64])
+    requires { length (gather (array_vec_len found.now) (picked_by (sets_in rings.now) (members_of found.now))) ≤ length (sets_in out.old) }
     ensures long { length out.new ≡ length out.old }
-    ensures list { sets_in out.new ≡ over (gather found.count (λ a. spec.reduced (picked_by (sets_in rings.now) (members_of found) a))) (sets_in out.old) }
+    ensures list { sets_in out.new ≡ over (gather (array_vec_len found.now) (λ a. spec.reduced (picked_by (sets_in rings.now) (members_of found.now) a))) (sets_in out.old) }
 {
     let mut at: usize = 0;
-    for a in 0..found.count {
-        at += reduce_assembly(rings, found.members[a], &mut out[at * WORDS..]);
+    for members in found {
+        at += reduce_assembly(rings, *members, &mut out[at * WORDS..]);
     }
 }

@@ -6,8 +6,8 @@ ghost use Rattle.sets.specs.Lists.{sets_in};
 ghost use Rattle.definitions.specs.Reduced as spec;
 ghost use Rattle.reduced.specs.Change.{changed?};
 
-use sets::BondSet;
 use sets::list::sets_in;
+use sets::{BondSet, WordSet};
 
 // Is the one set smaller than the other? Sizes decide.
 fn smaller(one: BondSet, other: BondSet) -> bool

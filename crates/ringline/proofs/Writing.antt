@@ -1,14 +1,15 @@
 -- The lines of the program: how long they are, and the parts that they are made of. Assumes nothing.
-use mathlib.Core.Path.{◌≡◌, refl, ap, ◌∙◌}
-use mathlib.Core.Bool.{Bool, true, false}
+use mathlib.Core.Path.{◌≡◌, refl, ap}
 use mathlib.Core.List.{List, [], ◌∷◌, ◌++◌, append_assoc}
-use Prim.Native.Nat.{ℕ, zero, suc, ◌+◌, ◌-◌}
+use Prim.Native.Nat.{ℕ, zero, suc, ◌+◌}
 use native.Mathlib.Omega.{arith}
 use lib.ListN.{length, length-append}
-use Rattle.definitions.specs.Text.{decimal, hex, space, newline}
-use Rattle.definitions.specs.Ringline.{label_text, end_line, frame_line}
+use Rattle.definitions.specs.Table.{Table}
+use Rattle.definitions.specs.Label.{label_of}
+use Rattle.definitions.specs.Answer.{refusal_of_rings}
+use Rattle.definitions.specs.Text.{decimal_in, decimal, hex, space, newline}
+use Rattle.definitions.specs.Ringline.{label_text, end_line, frame_line, record_line}
 use Rattle.records.specs.Spaced.{spaced}
-use Rattle.ringline.specs.Line.{answer_line, last_line}
 
 -- ---- how long the lines are
 
@@ -23,9 +24,12 @@ unfolding frame_line
 length-frame_line n = length-append (decimal n) _
 
 -- two numbers, each with a space, the label's text and the line's end
-pub length-answer_line : (n c : ℕ) (label : List ℕ) → length (answer_line n c label) ≡ length (decimal n) + length (decimal c) + length (label_text c label) + 3
-unfolding answer_line
-length-answer_line n c label = omega (arith, length-append (decimal n) (space ∷ (decimal c ++ (space ∷ (label_text c label ++ (newline ∷ []))))), length-append (decimal c) (space ∷ (label_text c label ++ (newline ∷ []))), length-append (label_text c label) (newline ∷ []))
+pub length-record_line : (n : ℕ) (M : Table) → let c = refusal_of_rings M in length (record_line n M) ≡ length (decimal n) + length (decimal c) + length (label_text c (label_of M)) + 3
+unfolding record_line
+length-record_line n M =
+    let c = refusal_of_rings M in
+    let text = label_text c (label_of M) in
+    omega (arith, length-append (decimal n) (space ∷ (decimal c ++ (space ∷ (text ++ (newline ∷ []))))), length-append (decimal c) (space ∷ (text ++ (newline ∷ []))), length-append text (newline ∷ []))
 
 -- ---- the parts of a line
 
@@ -35,11 +39,9 @@ unfolding spaced frame_line
 frame_parts n = append_assoc (decimal n) _ _
 
 -- two numbers, each with a space, the label's text and the line's end
-pub answer_parts : (n c : ℕ) (label : List ℕ) → spaced n ++ (spaced c ++ (label_text c label ++ (newline ∷ []))) ≡ answer_line n c label
-unfolding spaced answer_line
-answer_parts n c label =
-    append_assoc (decimal n) _ _
-    ∙ ap (λ (t : List ℕ). decimal n ++ (space ∷ t)) (append_assoc (decimal c) _ _)
+pub line_parts : (n : ℕ) (M : Table) {text : List ℕ} → text ≡ spaced (refusal_of_rings M) ++ label_text (refusal_of_rings M) (label_of M) → spaced n ++ (text ++ (newline ∷ [])) ≡ record_line n M
+unfolding spaced record_line
+line_parts n M e = rw e (simp append_assoc)
 
 -- an accepted table has its label in hex
 pub text_accepted : (c : ℕ) (label : List ℕ) → c ≡ 0 → hex label ≡ label_text c label
@@ -53,12 +55,12 @@ unfolding label_text
 text_refused zero label e = absurd (e refl)
 text_refused (suc c) label e = refl
 
--- at the end of the input the last line is the end
-pub last_ended : (n : ℕ) {b : Bool} → b ≡ true → end_line (n - 1) ≡ last_line n b
-unfolding last_line
-last_ended n e = rw e
+-- a label is told with 0 before it
+pub told_accepted : (c : ℕ) (label : List ℕ) → c ≡ 0 → 48 ∷ space ∷ hex label ≡ spaced c ++ label_text c label
+unfolding label_text spaced decimal decimal_in
+told_accepted zero label e = refl
+told_accepted (suc c) label e = absurd (omega arith)
 
--- at a broken record it is `frame`
-pub last_broken : (n : ℕ) {b : Bool} → b ≡ false → frame_line n ≡ last_line n b
-unfolding last_line
-last_broken n e = rw e
+-- a refusal with its number
+pub told_refused : (c : ℕ) (label : List ℕ) → (c ≡ 0 → ⊥) → spaced c ++ (45 ∷ []) ≡ spaced c ++ label_text c label
+told_refused c label e = ap (λ (t : List ℕ). spaced c ++ t) (text_refused c label e)

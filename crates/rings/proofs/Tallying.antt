@@ -7,7 +7,7 @@ use mathlib.Core.List.Memᴰ.{eq_of_singleton}
 use mathlib.Core.List.Memᴰ.{head as here}
 use mathlib.Core.List.{List, [], ◌∷◌, map, map-append, Memᴰ as In}
 use Prim.Native.Nat.{ℕ, ◌+◌, ◌^◌, ◌/◌, ◌<◌, ◌≤◌, max}
-use native.Mathlib.Nat.{le_antisymm}
+use native.Mathlib.Nat.{le_refl, le_antisymm}
 use native.Mathlib.Omega.{arith}
 use lib.ListN.{length, take, get_or, set, length-map, get_or-eq_default}
 use lib.Bits.{xor_zero_r}
@@ -15,7 +15,7 @@ use lib.Pow.{pow_mono}
 use lib.Dec.{ltb}
 use borrow.Author.Tests.{ltb-true, ltb-false}
 use Rattle.sets.specs.Bits.{has, size, meet, IsNext}
-use Rattle.sets.specs.Ring.{room}
+use Rattle.sets.specs.Ring.{bits, room}
 use Rattle.sets.specs.Bond as bond
 use Rattle.sets.specs.Lists.{sets_in, words}
 use Rattle.sets.proofs.Lists.{sets-length}
@@ -38,9 +38,11 @@ use Rattle.combining.specs.Gibbs.{clear?, rings_from, combined, found_at, found_
 use Rattle.combining.proofs.Turns.{found-few}
 use Rattle.combining.proofs.Exactly.{combined-sum}
 use Rattle.ordering.specs.Sizes.{Countable, Tallied}
-use Rattle.ordering.proofs.Sizing.{occurs-le, tallied_higher, Tallying, tallying_none, tallying_more, tallying_all}
+use Rattle.ordering.proofs.Sizing.{occurs-le, Tallying, tallying_none, tallying_more}
 use Rattle.choosing.specs.Elimination.{Choosable, Selected}
-use Rattle.rings.specs.Tally.{most_in_one, most_in_all, Both, Single, Alone, Separate}
+use Rattle.rings.specs.Tally.{most_in_one, most_in_all, own_rings, Open, Both, Single, Alone, Separate}
+use Rattle.rings.specs.declared.assembly.Assembly.{Assembly}
+use Rattle.rings.specs.declared.histograms.Histograms.{Histograms}
 use Rattle.perception.proofs.Perceiving.{all_found-most}
 
 -- as many basis rings are picked as the set of places has
@@ -73,20 +75,32 @@ pub countable_less : {counts : List ℕ} {m n : ℕ} → Countable counts m → 
 countable_less c h = record { long = c.long; fits = λ z. omega (arith, c.fits z) }
 
 -- before any set is counted
-tallied_none : (start : List ℕ) → Tallied [] start 0 start 0
-tallied_none start = record {
+tallied_none : (start : List ℕ) (top : ℕ) → Tallied [] start top start top
+tallied_none start top = record {
   long = refl;
   told = λ z l. omega (arith, occurs-nil z);
-  higher = omega arith;
+  higher = le_refl top;
   within = λ l. l;
   none = λ z l. occurs-nil z;
 }
 
--- what is no less than a possible size is no less than 0
-tallied_lowered : {sets start : List ℕ} {top : ℕ} {counts : List ℕ} {r : ℕ} → top ≤ all_sizes → Tallied sets start top counts r → Tallied sets start 0 counts r
-tallied_lowered h t = record { long = t.long; told = t.told; higher = omega arith; within = λ l. t.within h; none = t.none }
+-- a higher bound does, where it is no less than a possible size only if the first is
+tallied_raised : {sets start counts : List ℕ} {top r r' : ℕ} → r ≤ r' → (r ≤ all_sizes → r' ≤ all_sizes) → Tallied sets start top counts r
+    → Tallied sets start top counts r'
+tallied_raised h w t = record {
+  long = t.long;
+  told = t.told;
+  higher = omega (arith, t.higher);
+  within = λ l. w (t.within l);
+  none = λ z l. t.none z (omega arith);
+}
 
-module _ {sets start counts : List ℕ} {r : ℕ} (t : Tallied sets start 0 counts r) where
+-- so does a lower start
+tallied_lowered : {sets start counts : List ℕ} {low top r : ℕ} → low ≤ top → (low ≤ all_sizes → top ≤ all_sizes) → Tallied sets start top counts r
+    → Tallied sets start low counts r
+tallied_lowered h w t = record { long = t.long; told = t.told; higher = omega (arith, t.higher); within = λ l. t.within (w l); none = t.none }
+
+module _ {sets start counts : List ℕ} {top r : ℕ} (t : Tallied sets start top counts r) where
   -- of so many that can be counted these are taken away, and the others still can
   tallied_countable : {m k : ℕ} → Countable start m → length sets + k ≤ m → Countable counts k
   tallied_countable {m} {k} c h = record {
@@ -97,22 +111,17 @@ module _ {sets start counts : List ℕ} {r : ℕ} (t : Tallied sets start 0 coun
   }
 
   -- more sets are counted on top
-  tallied_more : {more both counts' : List ℕ} → Tallied more counts 0 counts' r
-      → ((z : ℕ) → occurs z (map size both) ≡ occurs z (map size sets) + occurs z (map size more)) → Tallied both start 0 counts' r
+  tallied_more : {more both counts' : List ℕ} {mid : ℕ} → Tallied more counts mid counts' r
+      → ((z : ℕ) → occurs z (map size both) ≡ occurs z (map size sets) + occurs z (map size more)) → Tallied both start top counts' r
   tallied_more u e = record {
     long = u.long ∙ t.long;
     told = λ z l. omega (arith, u.told z l, t.told z l, e z);
-    higher = omega arith;
-    within = u.within;
+    higher = t.higher;
+    within = t.within;
     none = λ z l. omega (arith, e z, u.none z l, t.none z l);
   }
 
 -- ---- the sets of a list and what is taken of them in order
-
--- with a higher bound
-both_higher : {sets all₀ smallest₀ all smallest : List ℕ} {r : ℕ} (r' : ℕ) → r ≤ r' → r' ≤ all_sizes → Both sets all₀ smallest₀ all smallest r
-    → Both sets all₀ smallest₀ all smallest r'
-both_higher r' h few (t, u) = (tallied_higher r' h few t, tallied_higher r' h few u)
 
 -- the sets stand at the start of a list and are counted
 module _ {sets start found : List ℕ} {n : ℕ} (g : Appended start 0 sets found n) where
@@ -120,30 +129,33 @@ module _ {sets start found : List ℕ} {n : ℕ} (g : Appended start 0 sets foun
   first : take n found ≡ sets
   first = appended_take (omega arith) g
 
-  module _ {all₀ all smallest₀ smallest : List ℕ} {mid r : ℕ} (t : Tallied (take n found) all₀ 0 all mid) where
-    -- then what is taken of them is counted
-    both_counted : {taken : List ℕ} → taken ≡ taking [] (sort before sets) → Tallied taken smallest₀ mid smallest r → Both sets all₀ smallest₀ all smallest r
-    both_counted e u =
-        let few : mid ≤ all_sizes = t.within (omega arith) in (
-          subst (λ l. Tallied l all₀ 0 all r) first (tallied_higher r u.higher (u.within few) t),
-          subst (λ l. Tallied l smallest₀ 0 smallest r) e (tallied_lowered few u),
-        )
-
-    -- which is chosen from them in order
-    pub both_chosen : {ordered lent taken : List ℕ} {k : ℕ} → ordered ≡ sort before (take n found) → Selected ordered lent taken k
-        → Tallied (take k taken) smallest₀ mid smallest r → Both sets all₀ smallest₀ all smallest r
-    both_chosen e s u = both_counted (s.list ∙ ap (taking []) (e ∙ ap (sort before) first)) u
+  -- they are counted, what is taken of them in order is chosen, and that is counted too
+  pub both_chosen : {start end : Histograms} {mid : ℕ} {counted ordered lent taken chosen : List ℕ} {k : ℕ} → counted ≡ take n found
+      → Tallied counted start.all start.top end.all mid → ordered ≡ sort before (take n found) → Selected ordered lent taken k → chosen ≡ take k taken
+      → Tallied chosen start.smallest mid end.smallest end.top → Both sets start end
+  both_chosen {start} {end} f t e s d u = record {
+    all = subst (λ l. Tallied l start.all start.top end.all end.top) (f ∙ first) (tallied_raised u.higher u.within t);
+    smallest = subst (λ l. Tallied l start.smallest start.top end.smallest end.top) (d ∙ s.list ∙ ap (taking []) (e ∙ ap (sort before) first))
+        (tallied_lowered t.higher t.within u);
+  }
 
 -- ---- a ring that is alone in its assembly, given by its place
 
 -- one set is counted under its size
-tallied_one : {start : List ℕ} (x : ℕ) {z : ℕ} → Countable start most_in_one → z ≡ size x → z < all_sizes
-    → Tallied (x ∷ []) start 0 (set start z (get_or start z 0 + 1)) (z + 1)
-tallied_one {start} x c e h =
-    let none : Tallying (x ∷ []) 1 start 0 start 0 0 = tallying_none 0 (omega arith) (countable_less c (omega arith)) in
-    tallying_all (tallying_more none (omega arith) e h (omega arith, omega arith, λ l. omega arith)) (omega arith)
+tallied_one : {start : List ℕ} {top : ℕ} (x : ℕ) {z r : ℕ} → Countable start most_in_one → z ≡ size x → z < all_sizes → r ≡ max top (z + 1)
+    → Tallied (x ∷ []) start top (set start z (get_or start z 0 + 1)) r
+tallied_one {start} {top} x {z = z} {r} c e h is =
+    let none : Tallying (x ∷ []) start top start top 0 = tallying_none top (countable_less c (omega arith)) in
+    let one : Tallying (x ∷ []) start top (set start z (get_or start z 0 + 1)) r 1 = tallying_more none (omega arith) e h is in
+    record { long = one.places; told = one.told; higher = one.higher; within = one.low; none = one.none }
 
-module _ {rings : List ℕ} {places i : ℕ} (s : Single rings places) (b : places < 2 ^ room) (n : IsNext room places 0 i) where
+module _ {assembly : Assembly} {i : ℕ} (s : Single assembly) (b : bits assembly.members < 2 ^ room) (n : IsNext room (bits assembly.members) 0 i) where
+  abbrev rings : List ℕ
+  rings = sets_in assembly.rings.now
+
+  abbrev places : ℕ
+  places = bits assembly.members
+
   -- there is such a place
   pub single_inside : i < room
   single_inside =
@@ -168,14 +180,14 @@ module _ {rings : List ℕ} {places i : ℕ} (s : Single rings places) (b : plac
       only (y ∷ z ∷ l) e m = absurd (omega arith)
 
   -- and it is counted, and taken
-  pub both_single : {all smallest : List ℕ} {z : ℕ} → Countable all most_in_one → Countable smallest most_in_one → z ≡ size (get_or rings i 0) → z < all_sizes
-      → Both (combined (picked rings places)) all smallest (set all z (get_or all z 0 + 1)) (set smallest z (get_or smallest z 0 + 1)) (z + 1)
-  both_single {all} {smallest} {z} c d e h = (
-    subst⁻¹ (λ l. Tallied l all 0 (set all z (get_or all z 0 + 1)) (z + 1)) single_found (tallied_one (get_or rings i 0) c e h),
-    subst⁻¹ (λ l. Tallied l smallest 0 (set smallest z (get_or smallest z 0 + 1)) (z + 1))
-        (taken_alone (combined (picked rings places)) (ap length single_found) s.some ∙ single_found)
-        (tallied_one (get_or rings i 0) d e h),
-  )
+  pub both_single : {h : Histograms} {z r : ℕ} → Open h most_in_one → z ≡ size (get_or rings i 0) → z < all_sizes → r ≡ max h.top (z + 1)
+      → Both (own_rings assembly) h (record { all = set h.all z (get_or h.all z 0 + 1); smallest = set h.smallest z (get_or h.smallest z 0 + 1); top = r })
+  both_single {h} {z} {r} c e l is = record {
+    all = subst⁻¹ (λ sets. Tallied sets h.all h.top (set h.all z (get_or h.all z 0 + 1)) r) single_found (tallied_one (get_or rings i 0) c.all e l is);
+    smallest = subst⁻¹ (λ sets. Tallied sets h.smallest h.top (set h.smallest z (get_or h.smallest z 0 + 1)) r)
+        (taken_alone (own_rings assembly) (ap length single_found) s.some ∙ single_found)
+        (tallied_one (get_or rings i 0) c.smallest e l is);
+  }
 
 -- ---- one assembly
 
@@ -197,12 +209,11 @@ module _ {rings : List ℕ} {places m : ℕ} (h : Alone rings places m) {start f
   alone_few = omega (arith, g.end, found-few rings places, pow_mono h.small)
 
   -- each set found is a sum of its basis rings, so a smallest basis can be chosen from them in order
-  pub alone_choosable : {ordered taken : List ℕ} {want : ℕ} → places < 2 ^ room → want ≡ size places → n ≤ length ordered → take n ordered ≡ sort before (take n found)
-      → length taken ≡ bond.room → Choosable ordered n want taken
-  alone_choosable b is within e lent =
+  pub alone_choosable : {ordered taken : List ℕ} {want : ℕ} → places < 2 ^ room → want ≡ size places → ordered ≡ sort before (take n found)
+      → length taken ≡ bond.room → Choosable ordered want taken
+  alone_choosable b is e lent =
       let basis = picked rings places in
       record {
-        within = within;
         lent = lent;
         few = omega (arith, is, h.small);
         spanned = (
@@ -215,16 +226,18 @@ module _ {rings : List ℕ} {places m : ℕ} (h : Alone rings places m) {start f
 -- ---- one assembly after another
 
 -- the assemblies below a are counted
-pub record CountedTo (rings members : List ℕ) (n : ℕ) (all₀ smallest₀ : List ℕ) (all smallest : List ℕ) (top a : ℕ) : Type 0 where
+pub record CountedTo (rings members : List ℕ) (n : ℕ) (start h : Histograms) (a : ℕ) : Type 0 where
   pub within : a ≤ n
-  pub both : Both (found_in rings members a) all₀ smallest₀ all smallest top
+  pub both : Both (found_in rings members a) start h
 
 -- before the first
-pub counted_none : (rings members : List ℕ) (n : ℕ) (all smallest : List ℕ) → CountedTo rings members n all smallest all smallest 0 0
-counted_none rings members n all smallest = record {
+pub counted_none : (rings members : List ℕ) (n : ℕ) (h : Histograms) → CountedTo rings members n h h 0
+counted_none rings members n h = record {
   within = omega arith;
-  both = subst⁻¹ (λ l. Both l all smallest all smallest 0) (gather-zero (found_at rings members))
-      (tallied_none all, subst⁻¹ (λ l. Tallied l smallest 0 smallest 0) taken_nil (tallied_none smallest));
+  both = subst⁻¹ (λ l. Both l h h) (gather-zero (found_at rings members)) (record {
+    all = tallied_none h.all h.top;
+    smallest = subst⁻¹ (λ l. Tallied l h.smallest h.top h.smallest h.top) taken_nil (tallied_none h.smallest h.top);
+  });
 }
 
 -- a list of as many words holds as many sets
@@ -236,32 +249,29 @@ module _ {rings members : List ℕ} {n m : ℕ} (s : Separate rings members n m)
   pub alone_at : {places k : ℕ} → get_or members a 0 ≡ places → k ≡ m → Alone rings places k
   alone_at {places} {k} is e = subst (λ p. Alone rings p k) is (subst⁻¹ (Alone rings (get_or members a 0)) e (s.each a l))
 
-  module _ {all₀ smallest₀ all smallest : List ℕ} {top : ℕ} (t : CountedTo rings members n all₀ smallest₀ all smallest top a) where
+  module _ {start h : Histograms} (t : CountedTo rings members n start h a) where
     -- what is found in this one is no more than can still be counted
     counted-few : length (found_in rings members a) + most_in_one ≤ most_in_all
     counted-few = omega (arith, all_found-most rings members a (λ b h. (s.each b (omega arith)).small), s.counted)
 
-    -- so its rings can
-    pub countable_all : Countable all₀ most_in_all → Countable all most_in_one
-    countable_all c = tallied_countable t.both.0 c counted-few
-
-    -- and those of its smallest basis
-    pub countable_smallest : Countable smallest₀ most_in_all → Countable smallest most_in_one
-    countable_smallest c = tallied_countable t.both.1 c (omega (arith, counted-few, taken_few (found_in rings members a)))
+    -- so its rings can, and those of its smallest basis
+    pub counted_open : Open start most_in_all → Open h most_in_one
+    counted_open c = record {
+      all = tallied_countable t.both.all c.all counted-few;
+      smallest = tallied_countable t.both.smallest c.smallest (omega (arith, counted-few, taken_few (found_in rings members a)));
+    }
 
     -- this one is counted
-    pub counted_more : {places : ℕ} {all' smallest' : List ℕ} {end r : ℕ} → get_or members a 0 ≡ places → r ≡ max top end
-        → Both (combined (picked rings places)) all smallest all' smallest' end → CountedTo rings members n all₀ smallest₀ all' smallest' r (a + 1)
-    counted_more {places} {all'} {smallest'} {end} {r} is e u =
-        let low : r ≤ all_sizes = omega (arith, t.both.0.within (omega arith), u.0.within (omega arith)) in
-        let (t₀, t₁) = both_higher r (omega arith) low t.both in
-        let (u₀, u₁) = both_higher r (omega arith) low (subst⁻¹ (λ p. Both (combined (picked rings p)) all smallest all' smallest' end) is u) in
+    pub counted_more : {places : ℕ} {h' : Histograms} → get_or members a 0 ≡ places → Both (combined (picked rings places)) h h'
+        → CountedTo rings members n start h' (a + 1)
+    counted_more {places} {h'} is e =
+        let u : Both (found_at rings members a) h h' = subst⁻¹ (λ p. Both (combined (picked rings p)) h h') is e in
         record {
           within = omega arith;
-          both = subst⁻¹ (λ l. Both l all₀ smallest₀ all' smallest' r) (gather_step a (found_at rings members)) (
-            tallied_more t₀ u₀ (λ z. ap (occurs z) (map-append size old new) ∙ occurs-append z (map size old) (map size new)),
-            tallied_more t₁ u₁ (taken_apart old new apart),
-          );
+          both = subst⁻¹ (λ l. Both l start h') (gather_step a (found_at rings members)) (record {
+            all = tallied_more (tallied_raised u.all.higher u.all.within t.both.all) u.all (λ z. ap (occurs z) (map-append size old new) ∙ occurs-append z (map size old) (map size new));
+            smallest = tallied_more (tallied_raised u.smallest.higher u.smallest.within t.both.smallest) u.smallest (taken_apart old new apart);
+          });
         }
       where
         old : List ℕ
@@ -275,7 +285,6 @@ module _ {rings members : List ℕ} {n m : ℕ} (s : Separate rings members n m)
         apart x y i j = let (b, h, k) = (gather_in a (found_at rings members) x).0 i in s.apart b a h l x y k j
 
 -- after the last all are counted
-pub counted_all : {rings members : List ℕ} {n : ℕ} {all₀ smallest₀ all smallest : List ℕ} {top a : ℕ} → CountedTo rings members n all₀ smallest₀ all smallest top a → n ≤ a
-    → Both (found_in rings members n) all₀ smallest₀ all smallest top
-counted_all {rings} {members} {all₀ = all₀} {smallest₀} {all} {smallest} {top} t h =
-    subst (λ k. Both (found_in rings members k) all₀ smallest₀ all smallest top) (le_antisymm t.within h) t.both
+pub counted_all : {rings members : List ℕ} {n : ℕ} {start h : Histograms} {a : ℕ} → CountedTo rings members n start h a → n ≤ a
+    → Both (found_in rings members n) start h
+counted_all {rings} {members} {start = start} {h} t l = subst (λ k. Both (found_in rings members k) start h) (le_antisymm t.within l) t.both

@@ -11,7 +11,7 @@ use lib.Dec.{leb, lit<}
 use borrow.Author.Tests.{leb-true, leb-false}
 use lib.ListN.{length, take, drop, get_or, set, length-append, length-drop, take-append-drop, replicate, length-replicate, replicate-append-replicate}
 use lib.Pow.{pow-add}
-use lib.Seq.{length-take-le, take-append-le, drop-append-le, drop-drop, set_split, take_all, sets, sets-eq, length-sets, take_at, drop_at}
+use lib.Seq.{take-add, get_or-drop, length-take-le, take-append-le, drop-append-le, drop-drop, set_split, take_all, sets, sets-eq, length-sets, take_at, drop_at}
 use Rattle.sets.specs.Lists.{value_of, words, groups, sets_in, words_of, spread, spread_all, in_words, Put}
 
 -- no member in any word: the empty set
@@ -313,3 +313,32 @@ module _ (n : ℕ) (pos : 0 < n) where
 pub sets-in_words : (l : List ℕ) → ((s : ℕ) → In s l → s < 2 ^ (words * 64)) → sets_in (in_words l) ≡ l
 unfolding sets_in in_words
 sets-in_words = spreads_read words (lit< tt)
+
+words-take : (n : ℕ) (ws : List ℕ) → Words ws → Words (take n ws)
+words-take zero ws h i = omega arith
+words-take (suc n) [] h i = omega arith
+words-take (suc n) (w ∷ ws) h zero = h 0
+words-take (suc n) (w ∷ ws) h (suc i) = words-take n ws (λ j. h (suc j)) i
+
+words-drop : (n : ℕ) (ws : List ℕ) → Words ws → Words (drop n ws)
+words-drop n ws h i = rw (get_or-drop n ws i 0) (h (n + i))
+
+-- the words of the first k groups are these words
+spread_groups : (n k : ℕ) (ws : List ℕ) → Words ws → k * n ≤ length ws → spread_all n (groups n k ws) ≡ take (k * n) ws
+unfolding spread_all groups
+spread_groups n zero ws h r = ap (λ (m : ℕ). take m ws) (sym (zero-mul n))
+spread_groups n (suc k) ws h r =
+    let l : n ≤ length ws = omega (arith, suc-mul k n) in
+    let one : length (take n ws) ≡ n = length-take-le n ws l in
+    ap₂ (λ (a b : List ℕ). a ++ b)
+    (ap (λ (m : ℕ). spread m (value_of (take n ws))) (sym one) ∙ spread_value (take n ws) (words-take n ws h))
+    (spread_groups n k (drop n ws) (words-drop n ws h) (omega (arith, suc-mul k n, length-drop n ws)))
+    ∙ sym (take-add n (k * n) ws)
+    ∙ ap (λ (m : ℕ). take m ws) (let e : n + k * n ≡ suc k * n = omega (arith, suc-mul k n) in e)
+
+-- the words of the first k sets of a list are its first words
+pub in_words-take : (k : ℕ) (ws : List ℕ) → Words ws → k ≤ length (sets_in ws) → in_words (take k (sets_in ws)) ≡ take (words_of k) ws
+unfolding sets_in in_words words_of
+in_words-take k ws h r =
+    let l : k ≤ length ws / words = rw (sets-length ws) at r in
+    ap (spread_all words) (groups-take words k (length ws / words) ws l) ∙ spread_groups words k ws h (of_room words (lit< tt) k ws l)

@@ -3,3 +3,4 @@ pub mod Bits
 pub mod Bond
 pub mod Ring
 pub mod Lists
+pub mod Rising

@@ -5,8 +5,12 @@
 mod bond;
 pub mod list;
 mod ring;
+mod rising;
 mod word;
+mod word_set;
 
 pub use bond::BondSet;
 pub use list::WORDS;
 pub use ring::RingSet;
+pub use rising::Rising;
+pub use word_set::WordSet;

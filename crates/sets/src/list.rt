@@ -16,8 +16,7 @@ pub fn sets_in(list: &[u64]) -> usize
 pub fn sets_up_to(list: &[u64], count: usize) -> usize
     ensures { result ≡ min count (length (sets_in list.now)) }
 {
-    let all = sets_in(list);
-    if count < all { count } else { all }
+    count.min(sets_in(list))
 }
 
 // The word of the set at place i.

@@ -3,10 +3,13 @@ ghost use Rattle.std.specs.Prelude.{◌≡◌, ◌≤◌, min};
 ghost use Rattle.std.specs.Int.Bits.{bit_or, bit_xor};
 ghost use Rattle.sets.specs.Bits as spec;
 ghost use Rattle.sets.specs.Ring.{bits, room};
+ghost use Rattle.sets.specs.Rising.{rising, left};
 
+use super::rising::Rising;
 use super::word;
+use super::word_set::WordSet;
 
-#[derive(Clone, Copy)]
+#[derive(Clone, Copy, Default)]
 pub struct RingSet(pub u64);
 
 impl RingSet {
@@ -29,60 +32,29 @@ impl RingSet {
     {
         RingSet(word::put(0, k))
     }
+}
 
-    // The set and ring k; the set as it is where k is above LAST.
-    pub fn with(self, k: usize) -> RingSet
-        ensures { bits result ≡ spec.put room (bits self) k }
-    {
-        RingSet(word::put(self.0, k))
+impl WordSet for RingSet {
+    ghost bits = { bits };
+
+    fn word(self) -> u64 {
+        self.0
     }
 
-    // The set less ring k.
-    pub fn without(self, k: usize) -> RingSet
-        ensures { bits result ≡ spec.without (bits self) k }
-    {
-        RingSet(word::without(self.0, k))
+    fn of_word(word: u64) -> RingSet {
+        RingSet(word)
     }
+}
 
-    // What is in one of the two sets and not in both.
-    pub fn sum(self, other: RingSet) -> RingSet
-        ensures { bits result ≡ bit_xor (bits self) (bits other) }
-    {
-        RingSet(self.0 ^ other.0)
-    }
+// The rings of the set, the least first.
+impl IntoIterator for RingSet {
+    type Item = usize;
 
-    // What is in one of the two sets or in both.
-    pub fn union(self, other: RingSet) -> RingSet
-        ensures { bits result ≡ bit_or (bits self) (bits other) }
-    {
-        RingSet(self.0 | other.0)
-    }
+    type IntoIter = Rising;
 
-    // Have the two sets a ring in common?
-    pub fn meets(self, other: RingSet) -> bool
-        ensures { result ≡ spec.meet (bits self) (bits other) }
-    {
-        self.0 & other.0 != 0
-    }
+    ghost into_iter_gives = { λ s it. left it ≡ rising room (bits s) };
 
-    // Is ring k in the set?
-    pub fn has(self, k: usize) -> bool
-        ensures { result ≡ spec.has (bits self) k }
-    {
-        word::has(self.0, k)
-    }
-
-    // How many rings the set has.
-    pub fn size(self) -> usize
-        ensures { (result ≡ spec.size (bits self)) × (result ≤ room) }
-    {
-        word::size(self.0)
-    }
-
-    // The least ring that is at least from, or LAST + 1 where there is none.
-    pub fn next(self, from: usize) -> usize
-        ensures { spec.IsNext room (bits self) from result }
-    {
-        word::next(self.0, from)
+    fn into_iter(self) -> Rising {
+        Rising(self.0)
     }
 }

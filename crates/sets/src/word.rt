@@ -37,7 +37,7 @@ pub(crate) fn has(w: u64, k: usize) -> bool
 pub(crate) fn size(w: u64) -> usize
     ensures { (result ≡ spec.size w) × (result ≤ 64) }
 {
-    u64::count_ones(w) as usize
+    w.count_ones() as usize
 }
 
 // The least member that is at least from, or SIZE where there is none.
@@ -51,6 +51,6 @@ pub(crate) fn next(w: u64, from: usize) -> usize
     if rest == 0 {
         SIZE
     } else {
-        from + (u64::trailing_zeros(rest) as usize)
+        from + rest.trailing_zeros() as usize
     }
 }

@@ -1,75 +1,63 @@
 // The sidecar of a table: one field with the reduced basis.
 #![tactic(auto)]
 
-ghost use Rattle.std.specs.Prelude.{◌≡◌, ◌+◌, ◌≤◌, length, take};
+ghost use Rattle.std.specs.Prelude.{◌≡◌, ◌+◌, ◌≤◌, length};
 ghost use Rattle.sets.specs.Bond.{bits};
 ghost use Rattle.sets.specs.Lists.{sets_in};
 ghost use Rattle.definitions.specs.Table.{table, refusal};
 ghost use Rattle.definitions.specs.Label.{bytes_of, bytes_of_all, field, sidecar_tag, set_bytes, sidecar_of};
-ghost use Rattle.definitions.specs.Answer.{outcome_of, written};
-ghost use Rattle.lent.specs.Appended.{Room, Appended};
+ghost use Rattle.definitions.specs.Answer.{written};
+ghost use Rattle.answers.specs.Told.{told};
+ghost use Rattle.lent.specs.Writes.{Fits, Writes};
 
-use answers::{Answer, ROOM};
-use fields::{HEAD, put_head, put_number};
-use sets::BondSet;
-
-// The tag of the field.
-const REDUCED: u8 = 0x20;
+use answers::Refusal;
+use fields::{HEAD, Tag, put_head, put_number};
+use lent::Writer;
+use sets::list::sets_in;
+use sets::{BondSet, WORDS};
 
 // The bytes of a set.
 const SET: usize = 8;
 
 // A set, high byte first.
-fn put_set(set: BondSet, out: &mut [u8], at: usize) -> usize
-    requires { at + set_bytes ≤ length out.old }
-    ensures { Appended out.old at (bytes_of set_bytes (bits set)) out.new result }
+fn put_set(set: BondSet, writer: &mut Writer)
+    requires { writer.old.at + set_bytes ≤ length writer.old.out.now }
+    ensures { Writes (bytes_of set_bytes (bits set)) writer.old writer.new }
 {
     let words = set.words();
-    put_number(SET, words[0], out, at)
+    put_number(SET, words[0], writer);
 }
 
-// The first n sets of a list.
-fn put_sets(sets: &[u64], n: usize, out: &mut [u8], at: usize) -> usize
-    requires { (n ≤ length (sets_in sets.now)) × Room (bytes_of_all set_bytes (take n (sets_in sets.now))) out.old at }
-    ensures { Appended out.old at (bytes_of_all set_bytes (take n (sets_in sets.now))) out.new result }
+// The sets of a list.
+fn put_sets(sets: &[u64], writer: &mut Writer)
+    requires { Fits (bytes_of_all set_bytes (sets_in sets.now)) writer.old }
+    ensures { Writes (bytes_of_all set_bytes (sets_in sets.now)) writer.old writer.new }
 {
-    let mut next: usize = at;
-    let mut i: usize = 0;
-    while i < n {
-        next = put_set(BondSet::at(sets, i), out, next);
-        i += 1;
+    for i in 0..sets_in(sets) {
+        put_set(BondSet::at(sets, i), writer);
     }
-    next
 }
 
-// The sidecar of the first n sets of a list.
-fn write_sidecar(sets: &[u64], n: usize, out: &mut [u8]) -> Answer
-    requires { n ≤ length (sets_in sets.now) }
-    ensures { outcome_of result.number result.count out.new ≡ written 0 (field sidecar_tag (bytes_of_all set_bytes (take n (sets_in sets.now)))) out.old }
+// The sidecar of the sets of a list.
+fn write_sidecar(sets: &[u64], out: &mut [u8]) -> Result<usize, Refusal>
+    ensures { told result out.new ≡ written 0 (field sidecar_tag (bytes_of_all set_bytes (sets_in sets.now))) out.old }
 {
-    let count = HEAD + SET * n;
+    let content = SET * sets_in(sets);
+    let count = HEAD + content;
     if out.len() < count {
-        return Answer {
-            number: ROOM,
-            count: 0,
-        };
+        return Err(Refusal::Room);
     }
-    let content = put_head(REDUCED, SET * n, out, 0);
-    put_sets(sets, n, out, content);
-    Answer { number: 0, count }
+    let mut writer = Writer::new(out);
+    put_head(Tag::Reduced.byte(), content, &mut writer);
+    put_sets(sets, &mut writer);
+    Ok(count)
 }
 
 // The sidecar: one field with the reduced basis.
-pub fn sidecar(atoms: u64, bonds: &[u8], out: &mut [u8]) -> Answer
-    ensures answer { outcome_of result.number result.count out.new ≡ written (refusal (table atoms bonds.now)) (sidecar_of (table atoms bonds.now)) out.old }
+pub fn sidecar(atoms: u64, bonds: &[u8], out: &mut [u8]) -> Result<usize, Refusal>
+    ensures answer { told result out.new ≡ written (refusal (table atoms bonds.now)) (sidecar_of (table atoms bonds.now)) out.old }
     ensures read { bonds.exit.now ≡ bonds.entry.now }
 {
-    let found = reduced::reduce(atoms, bonds);
-    if found.number > 0 {
-        return Answer {
-            number: found.number,
-            count: 0,
-        };
-    }
-    write_sidecar(&found.sets, found.count, out)
+    let found = reduced::reduce(atoms, bonds)?;
+    write_sidecar(&found.sets[..found.count * WORDS], out)
 }

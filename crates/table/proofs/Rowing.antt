@@ -15,12 +15,14 @@ use Rattle.sets.specs.Lists.{sets_in, words, Put}
 use Rattle.sets.proofs.Lists.{sets-blank, sets-long}
 use Rattle.sets.proofs.Machine.{put_below}
 use Rattle.definitions.specs.Search.{set_of}
-use Rattle.definitions.specs.Table.{Table, tail, head, meets?, max_atoms, refusal}
+use Rattle.definitions.specs.Table.{Table, tail, head, meets?, max_atoms}
 use Rattle.definitions.proofs.Tests.{by, eqb_self}
 use Rattle.definitions.proofs.Lists.{set_of_skip, set_of-take, get_or-same}
 use Rattle.table.specs.Ends.{bonds_alone, Fitting}
-use Rattle.table.specs.Rows.{Rowed, TableTested, RowsOf}
-use Rattle.table.specs.declared.rows.Rows.{Rows}
+use Rattle.table.specs.Rows.{Rowed, RowsOf}
+use Rattle.std.proofs.Common.{Result, Ok, Err, IfOk}
+use Rattle.answers.specs.Told.{code_of}
+use Rattle.answers.specs.declared.refusal.Refusal.{Refusal}
 use Rattle.table.proofs.Fitting.{EndAt}
 
 -- a list of zeros, of words for a set an atom
@@ -79,24 +81,9 @@ module _ {bs rows mid after : List ℕ} {k i j s t x y : ℕ} (h : Rowed bs k ro
 pub rowed_all : {bs rows : List ℕ} {n k : ℕ} → Rowed bs k rows → k ≤ n → n ≤ k → Rowed bs n rows
 rowed_all {bs} {rows} h within past = subst (λ (m : ℕ). Rowed bs m rows) (le_antisymm within past) h
 
--- of a refused table no rows are asked
-pub tested_refused : {M : Table} {n : ℕ} {rows : List ℕ} → n ≡ refusal M → 0 < n → TableTested M n rows
-tested_refused e some = record { number = e; accepted = λ none. absurd (omega (arith, e, some, none)) }
-
--- a refused table gets empty rows
-pub rows-refused : {M : Table} {r : Rows} → r.number ≡ refusal M → 0 < r.number → r.rows ≡ blank_rows → RowsOf M r
-rows-refused e some blank = record { number = e; refused = λ n a. rw blank (blank_empty a); accepted = λ none. absurd (omega (arith, e, some, none)) }
-
--- an accepted one gets the rows that were filled
-pub rows-accepted : {M : Table} {r : Rows} → TableTested M r.number r.rows → r.number ≤ 0 → RowsOf M r
-rows-accepted t none = record { number = t.number; refused = λ some. absurd (some (omega (arith, t.number, none))); accepted = t.accepted }
-
--- two of one table have the same number and the same rows
-pub rows_same : {M : Table} {p q : Rows} → RowsOf M p → RowsOf M q
-    → (p.number ≡ q.number) × ((a : ℕ) → a < max_atoms → get_or (sets_in p.rows) a 0 ≡ get_or (sets_in q.rows) a 0)
-rows_same {M} h k = (
-  h.number ∙ sym k.number,
-  λ a low. by (eqb (refusal M) 0)
-      (λ t. let z = eqb-true (refusal M) 0 t in (h.accepted z).row a low ∙ sym ((k.accepted z).row a low))
-      (λ t. let n = eqb-false (refusal M) 0 t in h.refused n a ∙ sym (k.refused n a)),
-)
+-- two of one table tell the same refusal or have the same rows
+pub rows_same : {M : Table} {p : Result (List ℕ) Refusal} {q : Result (List ℕ) Refusal} → RowsOf M p → RowsOf M q
+    → (code_of p ≡ code_of q) × IfOk p (λ rows. IfOk q (λ others. (a : ℕ) → a < max_atoms → get_or (sets_in rows) a 0 ≡ get_or (sets_in others) a 0))
+rows_same {M = M} {p = Ok rows} {q = Ok others} h k = (h.number ∙ sym k.number, λ a low. h.rows.row a low ∙ sym (k.rows.row a low))
+rows_same {M = M} {p = Ok rows} {q = Err e} h k = (h.number ∙ sym k.number, tt)
+rows_same {M = M} {p = Err d} {q = q} h k = (h.number ∙ sym k.number, tt)

@@ -1,13 +1,13 @@
 -- The tests of a table as the code tries them, one after another: those before place i have failed. Where the next one passes its number is
 -- given, and 0 where all fail. Assumes nothing.
-use mathlib.Core.Path.{◌≡◌, sym, ◌∙◌}
-use mathlib.Core.Bool.{Bool, true, false}
+use mathlib.Core.Path.{◌≡◌, refl, sym, ap, ◌∙◌}
+use mathlib.Core.Bool.{Bool, true, false, cond}
 use Prim.Native.Nat.{ℕ, suc, ◌<◌}
 use native.Mathlib.Omega.{arith}
 use lib.ListN.{length}
-use Rattle.definitions.specs.Search.{Each}
-use Rattle.definitions.specs.Table.{Table, bonds, self_bond?, table_tests, refusal}
-use Rattle.definitions.proofs.Tests.{each_more, none-at}
+use Rattle.definitions.specs.Search.{Each, some?}
+use Rattle.definitions.specs.Table.{Table, bonds, self_bond?, seen_before?, TWICE, table_tests, refusal}
+use Rattle.definitions.proofs.Tests.{by, each_more, none-at}
 use Rattle.definitions.proofs.Refusals.{EvenBytes, GoodCount, FewBonds, test_at, first-at, first-none, tried_exactly}
 use Rattle.table.specs.Ends.{Fitting}
 use Rattle.table.proofs.Fitting.{inside_fitting}
@@ -34,6 +34,13 @@ module _ {M : Table} {i : ℕ} (t : Tried M i) {r : Bool} (told : r ≡ (test_at
 pub tried_all : {M : Table} → Tried M (length (table_tests M)) → 0 ≡ refusal M
 unfolding refusal
 tried_all {M} t = sym (first-none (table_tests M) t.failed)
+
+-- the last test is whether a pair is bonded twice
+pub tried_filled : {M : Table} → Tried M 5 → {r : ℕ} → r ≡ cond (some? (bonds M) (seen_before? M)) TWICE 0 → r ≡ refusal M
+tried_filled {M} t told =
+    by (some? (bonds M) (seen_before? M))
+    (λ e. told ∙ ap (λ (b : Bool). cond b TWICE 0) e ∙ tried_found t refl e)
+    (λ e. told ∙ ap (λ (b : Bool). cond b TWICE 0) e ∙ tried_all (tried_more t refl e))
 
 -- where no bond names an atom that is not below the count, the bytes fit
 pub tried_fitting : {M : Table} → Tried M 4 → Fitting M.bytes

@@ -7,5 +7,5 @@ mod refusal;
 mod rows;
 
 pub use ends::{Ends, ends_of};
-pub use refusal::refusal_of;
-pub use rows::{Rows, rows_of};
+pub use refusal::accept;
+pub use rows::rows_of;

@@ -3,11 +3,12 @@ ghost use Rattle.std.specs.Prelude.{◌≡◌, false, ℕ, ◌/◌, ◌<◌, len
 ghost use Rattle.definitions.specs.Search.{some?};
 ghost use Rattle.definitions.specs.Table as spec;
 ghost use Rattle.table.specs.Ends.{bonds_alone, Fitting};
-ghost use Rattle.table.specs.Rows.{Rowed, TableTested};
+ghost use Rattle.answers.specs.Told.{code_of};
+ghost use Rattle.table.specs.Rows.{Rowed, RowsFilled, TableTested};
 
 use super::ends::ends_of;
-use answers::{ATOM_WORDS, MAX_ATOMS, MAX_BONDS};
-use sets::BondSet;
+use answers::{ATOM_WORDS, MAX_ATOMS, MAX_BONDS, Refusal};
+use sets::{BondSet, WordSet};
 
 // Has bond k an end that is the atom count or higher?
 fn bad_end(atoms: u64, bonds: &[u8], k: usize) -> bool
@@ -40,72 +41,68 @@ fn wrong_ends(atoms: u64, bonds: &[u8]) -> WrongEnds
 {
     let mut outside = false;
     let mut same = false;
-    let mut k: usize = 0;
-    while k < bonds.len() / 2 {
+    for k in 0..bonds.len() / 2 {
         outside = outside | bad_end(atoms, bonds, k);
         same = same | self_bond(bonds, k);
-        k += 1;
     }
     WrongEnds { outside, same }
 }
 
-// Fills the rows, empty so far, bond by bond, and tells whether some pair of atoms is bonded twice: a bond whose two atoms are bonded already
-// finds that bond in the rows of both. No bond joins an atom to itself here. The rows are by all bonds where no pair is.
-fn fill_rows(bonds: &[u8], rows: &mut [u64; ATOM_WORDS]) -> bool
+// Fills the rows, empty so far, bond by bond, up to one that joins a pair of atoms for the second time: its two atoms are bonded already, so
+// that bond is found in the rows of both. No bond joins an atom to itself here. The rows are by all bonds where no pair is bonded twice.
+fn fill_rows(bonds: &[u8], rows: &mut [u64; ATOM_WORDS]) -> Result<(), Refusal>
     requires { Fitting bonds.now × ((k : ℕ) → k < length bonds.now / 2 → spec.self_bond? (bonds_alone bonds.now) k ≡ false) × Rowed bonds.now 0 rows.old }
-    ensures twice { result ≡ some? (length bonds.now / 2) (spec.seen_before? (bonds_alone bonds.now)) }
-    ensures filled { result ≡ false → Rowed bonds.now (length bonds.now / 2) rows.new }
+    ensures { RowsFilled bonds.now result rows.new }
 {
-    let mut k: usize = 0;
-    while k < bonds.len() / 2 {
+    for k in 0..bonds.len() / 2 {
         let ends = ends_of(bonds, k);
         let a = ends.tail;
         let b = ends.head;
         let first = BondSet::at(rows, a);
         let other = BondSet::at(rows, b);
         if first.meets(other) {
-            return true;
+            return Err(Refusal::Twice);
         }
         first.with(k).put_at(rows, a);
         other.with(k).put_at(rows, b);
-        k += 1;
     }
-    false
+    Ok(())
 }
 
-// Why a table is refused, and 0 where it is accepted; the rows, empty so far, are then by all bonds.
-pub(crate) fn try_table(atoms: u64, bonds: &[u8], rows: &mut [u64; ATOM_WORDS]) -> u8
+// Tests a table, and fills the rows, empty so far, by all bonds of one that is accepted.
+pub(crate) fn try_table(
+    atoms: u64,
+    bonds: &[u8],
+    rows: &mut [u64; ATOM_WORDS],
+) -> Result<(), Refusal>
     requires { Rowed bonds.now 0 rows.old }
     ensures { TableTested (spec.table atoms bonds.now) result rows.new }
 {
     if bonds.len() % 2 == 1 {
-        return answers::ODD;
+        return Err(Refusal::Odd);
     }
     if atoms == 0 {
-        return answers::ATOMS;
+        return Err(Refusal::Atoms);
     }
     if atoms > MAX_ATOMS as u64 {
-        return answers::ATOMS;
+        return Err(Refusal::Atoms);
     }
     if bonds.len() / 2 > MAX_BONDS {
-        return answers::BONDS;
+        return Err(Refusal::Bonds);
     }
     let ends = wrong_ends(atoms, bonds);
     if ends.outside {
-        return answers::END;
+        return Err(Refusal::End);
     }
     if ends.same {
-        return answers::SELF;
+        return Err(Refusal::SelfBond);
     }
-    if fill_rows(bonds, rows) {
-        return answers::TWICE;
-    }
-    0
+    fill_rows(bonds, rows)
 }
 
-// Why a table is refused, and 0 where it is accepted.
-pub fn refusal_of(atoms: u64, bonds: &[u8]) -> u8
-    ensures { result ≡ spec.refusal (spec.table atoms bonds.now) }
+// Tests a table: the first of the refusals 1 to 6 that is true of it, if one is.
+pub fn accept(atoms: u64, bonds: &[u8]) -> Result<(), Refusal>
+    ensures { code_of result ≡ spec.refusal (spec.table atoms bonds.now) }
 {
     let mut rows = [0u64; ATOM_WORDS];
     try_table(atoms, bonds, &mut rows)

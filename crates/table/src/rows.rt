@@ -3,26 +3,13 @@ ghost use Rattle.definitions.specs.Table.{table};
 ghost use Rattle.table.specs.Rows.{RowsOf};
 
 use super::refusal::try_table;
-use answers::ATOM_WORDS;
+use answers::{ATOM_WORDS, Refusal};
 
-// The number of the refusal, or 0 with the rows, as a list of sets.
-#[derive(Clone, Copy)]
-pub struct Rows {
-    pub number: u8,
-    pub rows: [u64; ATOM_WORDS],
-}
-
-// The rows of a table, which are filled while it is tested.
-pub fn rows_of(atoms: u64, bonds: &[u8]) -> Rows
+// The rows of a table as a list of sets, which are filled while it is tested.
+pub fn rows_of(atoms: u64, bonds: &[u8]) -> Result<[u64; ATOM_WORDS], Refusal>
     ensures { RowsOf (table atoms bonds.now) result }
 {
-    let mut r = Rows {
-        number: 0,
-        rows: [0u64; ATOM_WORDS],
-    };
-    r.number = try_table(atoms, bonds, &mut r.rows);
-    if r.number > 0 {
-        r.rows = [0u64; ATOM_WORDS];
-    }
-    r
+    let mut rows = [0u64; ATOM_WORDS];
+    try_table(atoms, bonds, &mut rows)?;
+    Ok(rows)
 }

@@ -1,104 +1,85 @@
 -- The answer: what was noted is what is wanted, each return is the one that the contract names, and the bytes alone say as much as the table.
 -- Assumes nothing.
 use mathlib.Core.Path.{◌≡◌, refl, sym, ap, ap₂, ◌∙◌}
-use mathlib.Core.Logic.{◌⊎◌}
-use mathlib.Core.Bool.{Bool, true, false, cond, ◌&&◌, ◌||◌}
-use mathlib.Core.List.{List, ◌∷◌, map}
-use Prim.Native.Nat.{ℕ, zero, suc, ◌+◌, ◌≤◌, ◌<◌}
+use mathlib.Core.Bool.{Bool, true, false, cond, ◌&&◌}
+use mathlib.Core.List.{List, ◌∷◌, ◌++◌, map}
+use Prim.Native.Nat.{ℕ, zero, suc, ◌+◌, ◌≤◌}
 use native.Mathlib.Omega.{arith}
-use lib.Dec.{eqb, ltb}
+use lib.Dec.{eqb}
 use lib.ListN.{length, take, drop}
-use lib.Seq.{sets-eq, take_at, length-sets}
+use lib.Seq.{sets, sets-eq, take_at}
 use Rattle.sets.specs.Bits.{size}
-use Rattle.definitions.specs.Table.{Table, table, refusal, NOTRING, ROOM}
+use Rattle.definitions.specs.Table.{Table, table, refusal, NOTRING}
 use Rattle.definitions.specs.Ring.{degree, ring?}
 use Rattle.definitions.specs.Walk.{other_bond, onward, walk_from, walk_start, walk_of, walk_atoms, walk_bonds}
-use Rattle.definitions.specs.Answer.{Outcome, outcome_of, over, refusal_of_walk, written_both}
-use Rattle.definitions.proofs.Tests.{not_passed, clashes, same_test, Tells, true_of, false_of, tells_ltb, tells_or}
+use Rattle.definitions.specs.Answer.{Outcome, over, refusal_of_walk, written_both}
+use Rattle.definitions.proofs.Tests.{not_passed, same_test, true_of}
 use Rattle.definitions.proofs.Refusals.{tells_rooms, walk_kept, walk-free}
 use Rattle.definitions.proofs.Rings.{ring_test}
-use Rattle.answers.proofs.Answers.{outcome-refused, outcome_short, outcome-given}
+use Rattle.std.proofs.Common.{Ok, Err}
+use Rattle.answers.specs.Told.{number_of, told}
+use Rattle.answers.specs.declared.refusal.Refusal.{Refusal}
+use Rattle.answers.specs.declared.refusal.Refusal.TheVariants.{NotRing, Room}
+use Rattle.answers.proofs.Answers.{number-some, outcome-refused, outcome_short, outcome-given}
 use Rattle.table.specs.Ends.{bonds_alone}
 use Rattle.walking.specs.Closing.{closes?, walks?}
 use Rattle.walking.proofs.Steps.{atoms-length, bonds-length}
 use Rattle.walking.proofs.Rings.{ring-by_walking}
-use Rattle.walk.specs.Going.{Stored, Walked}
+use Rattle.walk.specs.Going.{noted}
+use Rattle.walk.specs.declared.round.Walk.{Walk}
 
--- ---- what was noted
-
--- a list in which items are stored keeps its length
-pub stored_length : {l items l' : List ℕ} {i : ℕ} → Stored l i items l' → length l ≡ length l'
-stored_length {l} {items} {i = i} h = sym (ap length h.list ∙ length-sets l i items)
-
--- items that are stored at its start are the first, and so are what is copied from there
-stored_copied : {l items l' : List ℕ} {n : ℕ} (lent : List ℕ) {out : List ℕ} → Stored l 0 items l' → length items ≡ n → n ≤ length l → out ≡ over (take n l') lent → out ≡ over items lent
-stored_copied {l} {items} {n = n} lent h all few e =
-    e
-    ∙ ap (λ (first : List ℕ). over first lent)
-    (ap (take n) (h.list ∙ sets-eq items l 0 (omega arith)) ∙ take_at items (drop (0 + length items) l) n all)
-
--- ---- the returns
-
--- one of two lists is too short for n items
-abbrev short? : List ℕ × List ℕ → ℕ → Bool
-short? lent n = ltb (length lent.0) n || ltb (length lent.1) n
-
--- as a sentence
-shorts : (lent : List ℕ × List ℕ) (n : ℕ) → Tells (short? lent n) ((length lent.0 < n) ⊎ (length lent.1 < n)) ((n ≤ length lent.0) × (n ≤ length lent.1))
-shorts lent n = tells_or (tells_ltb (length lent.0) n) (tells_ltb (length lent.1) n)
+-- items that are noted from the start of a list on stand over the start of a lent one, where as many are copied from there
+copied : (lent l items : List ℕ) {l' part : List ℕ} {n : ℕ} → l' ≡ sets l 0 items → part ≡ take n l' → length items ≡ n → n ≤ length l → part ++ drop n lent ≡ over items lent
+unfolding over
+copied lent l items {n = n} h e all few =
+    ap₂ (λ (a : List ℕ) (k : ℕ). a ++ drop k lent) (e ∙ ap (take n) (h ∙ sets-eq items l 0 (omega arith)) ∙ take_at items (drop (0 + length items) l) n all) (sym all)
 
 module _ (M : Table) (s : ℕ) (lent : List ℕ × List ℕ) where
   -- c is told, or where it is 0 the lists of the walk are written
   abbrev answer : ℕ → Outcome (List ℕ × List ℕ)
   answer c = written_both c (walk_atoms M s, walk_bonds M s) lent
 
-  -- a number above 0 is told with nothing written
-  both_refused : {r c : ℕ} → r ≡ c → 0 < r → outcome_of r 0 lent ≡ answer c
+  -- a refusal is told with nothing written
+  both_refused : {c : ℕ} → (e : Refusal) → number_of e ≡ c → told (Err e) lent ≡ answer c
   unfolding written_both
-  both_refused e h = outcome-refused e _ _ _ lent h
+  both_refused e given = outcome-refused _ _ _ lent e given
 
-  module _ {n c : ℕ} (all : n ≡ size s) (none : 0 ≡ c) where
-    -- a list is too short
-    both_short : short? lent n ≡ true → outcome_of ROOM 0 lent ≡ answer c
-    unfolding written_both
-    both_short e =
-        outcome_short none _ _ _ lent (omega arith)
-        (not_passed _ (λ r.
-        let (h, k) = (tells_rooms (walk_atoms M s) (walk_bonds M s) lent.0 lent.1).yes_says r in
-        clashes e (false_of (shorts lent n) (omega (arith, atoms-length M s), omega (arith, bonds-length M s)))))
+  -- where the walk tells whether one comes round
+  module _ {t : Bool} (closes : t ≡ walks? M s) where
+    -- the number for a set of an accepted table
+    abbrev number : ℕ
+    number = cond (walks? M s) 0 NOTRING
 
-    -- both are written
-    both_given : {l m : List ℕ} → short? lent n ≡ false → l ≡ over (walk_atoms M s) lent.0 → m ≡ over (walk_bonds M s) lent.1 → outcome_of 0 n (l, m) ≡ answer c
-    unfolding written_both
-    both_given e f g =
-        let (h, k) = (shorts lent n).no_says e in
-        outcome-given none _ _ _ lent (omega arith)
-        (true_of (tells_rooms (walk_atoms M s) (walk_bonds M s) lent.0 lent.1) (omega (arith, atoms-length M s), omega (arith, bonds-length M s)))
-        (all ∙ sym (atoms-length M s)) (ap₂ (λ (a b : List ℕ). (a, b)) f g)
+    -- where one does not, that is told
+    pub walked_refused : t ≡ false → told (Err NotRing) lent ≡ answer number
+    walked_refused e = both_refused NotRing (ap (λ (b : Bool). cond b 0 NOTRING) (sym e ∙ closes))
 
--- where one does not come round that is told, and where one does, that a list is too short, or what was noted is copied
-module _ {bs : List ℕ} {s : ℕ} {r : Bool} {v v' c c' : List ℕ} (w : Walked bs s r v v' c c') (lent : List ℕ × List ℕ) where
-  -- the number for a set of an accepted table
-  abbrev number : ℕ
-  number = cond (walks? (bonds_alone bs) s) 0 NOTRING
+    module _ (e : t ≡ true) {n : ℕ} (all : n ≡ size s) where
+      -- nothing is refused
+      free : 0 ≡ number
+      free = ap (λ (b : Bool). cond b 0 NOTRING) (sym e ∙ closes)
 
-  pub walked_refused : r ≡ false → outcome_of NOTRING 0 lent ≡ answer (bonds_alone bs) s lent number
-  walked_refused e = both_refused (bonds_alone bs) s lent (ap (λ (b : Bool). cond b 0 NOTRING) (sym e ∙ w.told)) (omega arith)
+      -- where one does, that a list is too short
+      pub walked_short : (n ≤ length lent.0 → n ≤ length lent.1 → ⊥) → told (Err Room) lent ≡ answer number
+      unfolding written_both
+      walked_short short =
+          outcome_short _ _ _ lent free
+          (not_passed _ (λ r.
+          let (i, j) = (tells_rooms (walk_atoms M s) (walk_bonds M s) lent.0 lent.1).yes_says r in
+          short (omega (arith, atoms-length M s)) (omega (arith, bonds-length M s))))
 
-  module _ (e : r ≡ true) {n : ℕ} (all : n ≡ size s) where
-    -- nothing is refused
-    free : 0 ≡ number
-    free = ap (λ (b : Bool). cond b 0 NOTRING) (sym e ∙ w.told)
-
-    pub walked_short : short? lent n ≡ true → outcome_of ROOM 0 lent ≡ answer (bonds_alone bs) s lent number
-    walked_short h = both_short (bonds_alone bs) s lent all free h
-
-    pub walked_given : {l m : List ℕ} → short? lent n ≡ false → n ≤ length v → n ≤ length c
-        → l ≡ over (take n v') lent.0 → m ≡ over (take n c') lent.1 → outcome_of 0 n (l, m) ≡ answer (bonds_alone bs) s lent number
-    walked_given h few few' f g =
-        both_given (bonds_alone bs) s lent all free h
-        (stored_copied lent.0 (w.visited e) (atoms-length (bonds_alone bs) s ∙ sym all) few f)
-        (stored_copied lent.1 (w.crossed e) (bonds-length (bonds_alone bs) s ∙ sym all) few' g)
+      -- or what was noted is copied
+      pub walked_given : (n ≤ length lent.0) × (n ≤ length lent.1) → (w : Walk) {w' : Walk} {a b : List ℕ} → (t ≡ true → w' ≡ noted w 0 (walk_of M s))
+          → n ≤ length w.atoms → n ≤ length w.bonds → a ≡ take n w'.atoms → b ≡ take n w'.bonds
+          → told (Ok n) (a ++ drop n lent.0, b ++ drop n lent.1) ≡ answer number
+      unfolding written_both walk_atoms walk_bonds
+      walked_given (i, j) w noted-is few few' f g =
+          outcome-given _ _ _ lent free
+          (true_of (tells_rooms (walk_atoms M s) (walk_bonds M s) lent.0 lent.1) (omega (arith, atoms-length M s), omega (arith, bonds-length M s)))
+          (all ∙ sym (atoms-length M s))
+          (ap₂ (λ (a b : List ℕ). (a, b))
+          (copied lent.0 w.atoms _ (ap (λ (x : Walk). x.atoms) (noted-is e)) f (atoms-length M s ∙ sym all) few)
+          (copied lent.1 w.bonds _ (ap (λ (x : Walk). x.bonds) (noted-is e)) g (bonds-length M s ∙ sym all) few'))
 
 -- ---- only the bonds are asked
 
@@ -140,6 +121,7 @@ module _ (x : ℕ) (bs : List ℕ) (s : ℕ) where
       → o ≡ answer (bonds_alone bs) s lent (cond (walks? (bonds_alone bs) s) 0 NOTRING) → o ≡ answer (table x bs) s lent (refusal_of_walk (table x bs) s)
   alone_answer e lent h = h ∙ rw (walks_ring e, atoms_alone, bonds_alone_lem, ← walk-free (table x bs) s e) refl
 
-  -- and the number of a refused one is told
-  pub refused_answer : {r : ℕ} → r ≡ refusal (table x bs) → 0 < r → (lent : List ℕ × List ℕ) → outcome_of r 0 lent ≡ answer (table x bs) s lent (refusal_of_walk (table x bs) s)
-  refused_answer e h lent = both_refused (table x bs) s lent (e ∙ sym (walk_kept (table x bs) s (λ z. omega arith))) h
+  -- and the refusal of a refused one is told
+  pub refused_answer : (e : Refusal) → number_of e ≡ refusal (table x bs) → (lent : List ℕ × List ℕ) → told (Err e) lent ≡ answer (table x bs) s lent (refusal_of_walk (table x bs) s)
+  refused_answer e given lent =
+      both_refused (table x bs) s lent e (given ∙ sym (walk_kept (table x bs) s (λ z. omega (arith, given, number-some e))))

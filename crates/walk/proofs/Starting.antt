@@ -1,80 +1,40 @@
--- The start of the walk, at the lower atom of the lowest bond, and the whole of it from there. Assumes nothing.
-use mathlib.Core.Path.{◌≡◌, refl, sym, ap, ◌∙◌}
-use mathlib.Core.Bool.{Bool, false, ◌&&◌, false≢true}
-use mathlib.Core.List.{List}
-use Prim.Native.Nat.{ℕ, zero, suc, ◌*◌, ◌/◌, ◌≤◌, ◌<◌, min}
+-- The start of the walk, at the lower atom of the lowest bond. Assumes nothing.
+use mathlib.Core.Path.{◌≡◌, refl, sym, ap}
+use mathlib.Core.Bool.{Bool, false, ◌&&◌}
+use Prim.Native.Nat.{ℕ, zero, suc, ◌≤◌, ◌<◌, min}
 use native.Mathlib.Omega.{arith}
-use lib.ListN.{length}
-use Rattle.sets.specs.Bits.{has, size, IsNext}
+use Rattle.sets.specs.Bits.{has, IsNext}
+use Rattle.sets.specs.Bond.{bits}
 use Rattle.definitions.specs.Table.{Table, bonds, tail, head, meets?, max_bonds}
 use Rattle.definitions.specs.Ring.{degree}
-use Rattle.definitions.specs.Walk.{onward, walk_start, walk_of, walk_atoms, walk_bonds}
+use Rattle.definitions.specs.Walk.{onward, walk_start}
 use Rattle.definitions.proofs.Lists.{count_none}
-use Rattle.table.specs.Ends.{bonds_alone, Fitting}
-use Rattle.table.specs.Rows.{Rowed}
+use Rattle.definitions.proofs.Tests.{some_of}
+use Rattle.table.specs.Ends.{EndsOf}
+use Rattle.table.specs.declared.ends.Ends.{Ends}
 use Rattle.walking.specs.Closing.{closes?, walks?}
-use Rattle.walking.proofs.Steps.{First}
-use Rattle.walk.specs.Going.{Standing, Noted, Walked}
-use Rattle.walk.specs.declared.round.Place.{Place}
-use Rattle.walk.proofs.Stepping.{first_is}
+use Rattle.walking.proofs.Steps.{First, first_that_lem, first_unique}
+use Rattle.walk.specs.Going.{table_of}
+use Rattle.walk.specs.declared.round.Ring.{Ring}
 
--- ---- a set with no bond of the table
-
--- it closes nowhere
+-- a walk with no bond of the table closes nowhere
 closes_nowhere : (M : Table) (s : ℕ) → ((k : ℕ) → k < bonds M → has s k ≡ false) → (a n : ℕ) (p : ℕ × ℕ) → closes? M s a n p ≡ false
 unfolding closes? degree
 closes_nowhere M s h a zero p = refl
 closes_nowhere M s h a (suc n) p = rw (count_none _ (bonds M) (λ k l. ap (λ (x : Bool). x && meets? M (onward M s p).0 k) (h k l)))
 
--- and is not walked round
-pub walked_none : {bs : List ℕ} {s first : ℕ} {v v' c c' : List ℕ} → IsNext max_bonds s 0 first → length bs / 2 ≤ first → Walked bs s false v v' c c'
-unfolding walks?
-walked_none {bs} {s} next h = record {
-  told = sym (closes_nowhere (bonds_alone bs) s (λ k l. next.none k (omega arith) (omega arith)) _ _ _);
-  visited = λ t. absurd (false≢true t);
-  crossed = λ t. absurd (false≢true t);
-}
+module _ (r : Ring) {first : ℕ} (next : IsNext max_bonds (bits r.set) 0 first) where
+  -- so where the ring has no bond of the table one does not come round
+  pub walks_none : bonds (table_of r) ≤ first → false ≡ walks? (table_of r) (bits r.set)
+  unfolding walks?
+  walks_none h = sym (closes_nowhere (table_of r) (bits r.set) (λ k l. next.none k (omega arith) (omega arith)) _ _ _)
 
--- ---- one with a bond
-
--- the walk starts at atom a, the lower one of the lowest bond, and has as many bonds to go as the set has
-pub record Start (bs : List ℕ) (s a first n : ℕ) : Type 0 where
-  pub fits : Fitting bs
-  pub next : IsNext max_bonds s 0 first
-  pub bond : first < length bs / 2
-  pub low : a ≡ min (tail (bonds_alone bs) first) (head (bonds_alone bs) first)
-  pub all : n ≡ size s
-
--- the place of the start
-abbrev start_place : ℕ → ℕ → ℕ → Place
-start_place a first n = record { start = a; gone = 0; left = n; atom = a; bond = first }
-
-module _ {bs : List ℕ} {s a first n : ℕ} (p : Start bs s a first n) where
-  -- the walk stands there
-  pub standing_first : {rows : List ℕ} → Rowed bs (length bs / 2) rows → n ≤ max_bonds → Standing bs rows (start_place a first n)
-  standing_first r few = record {
-    fits = p.fits;
-    rowed = r;
-    atom = omega (arith, p.low, p.fits.ends (2 * first) (omega (arith, p.bond)));
-    bond = p.bond;
-    room = omega arith;
-  }
-
-  -- it is the one from which the definition starts
-  start_is : (a, first) ≡ walk_start (bonds_alone bs) s
+  -- and where it has one, the walk is from the lower atom of the first
+  pub start_is : first < bonds (table_of r) → {e : Ends} → EndsOf r.bonds.now first e → (min e.tail e.head, first) ≡ walk_start (table_of r) (bits r.set)
   unfolding walk_start
-  start_is =
-      ap (λ (x : ℕ). (x, first)) p.low
-      ∙ ap (λ (k : ℕ). (min (tail (bonds_alone bs) k) (head (bonds_alone bs) k), k)) (sym (first_is first-bond))
-    where
-      first-bond : First (length bs / 2) (has s) first
-      first-bond = record { within = p.bond; passes = p.next.member (omega (arith, p.bond, p.fits.few)); none = λ j l. p.next.none j (omega arith) l }
-
-  -- so what is told and noted from there on is told and noted of the set
-  pub walked_from : {v v' c c' : List ℕ} {r : Bool} → Noted bs s (start_place a first n) r v v' c c' → Walked bs s r v v' c c'
-  unfolding walks? walk_of walk_atoms walk_bonds
-  walked_from h = record {
-    told = rw (← start_is, ← p.all) h.told;
-    visited = λ t. rw (← start_is, ← p.all) (h.visited t);
-    crossed = λ t. rw (← start_is, ← p.all) (h.crossed t);
-  }
+  start_is within ends =
+      let (tail-is, head-is) = ends.bond within in
+      let passes = next.member (omega (arith, r.fits.few)) in
+      let lowest : First (bonds (table_of r)) (has (bits r.set)) first = record { within = within; passes = passes; none = λ j l. next.none j (omega arith) l } in
+      let is = first_unique lowest (first_that_lem _ _ (some_of _ (has (bits r.set)) first within passes)) in
+      rw (tail-is, head-is) (ap (λ (k : ℕ). (min (tail (table_of r) k) (head (table_of r) k), k)) is)

@@ -1,31 +1,35 @@
 -- One step of the walk: the other bond at an atom, what the test tells, what is noted. Assumes nothing.
+use Rattle.std.proofs.Common.{Some, None}
+use Rattle.std.proofs.lemmas.Option.{none-some, cond_some}
 use mathlib.Core.Path.{◌≡◌, refl, sym, ap, ◌∙◌}
 use mathlib.Core.Logic.{◌≢◌}
-use mathlib.Core.Bool.{Bool, false, cond, ◌&&◌, not, and_assoc, and_comm, false≢true}
-use mathlib.Core.List.{List, ◌∷◌, map}
-use Prim.Native.Nat.{ℕ, suc, ◌+◌, ◌*◌, ◌-◌, ◌/◌, ◌^◌, ◌≤◌, ◌<◌}
+use mathlib.Core.Bool.{Bool, true, false, cond, ◌&&◌, not, and_assoc, and_comm}
+use mathlib.Core.List.{◌∷◌}
+use Prim.Native.Nat.{ℕ, suc, ◌+◌, ◌*◌, ◌-◌, ◌^◌, ◌≤◌, ◌<◌}
 use native.Mathlib.Nat.{pos_of_ne-zero}
 use native.Mathlib.Numerals.{add-one}
 use native.Mathlib.Omega.{arith}
 use lib.Bits.{bit_and}
 use lib.Dec.{eqb, ltb}
-use lib.ListN.{length, get_or, set}
-use borrow.Author.Tests.{eqb-true, eqb-false, eq-eqb, ne_eqb, ltb-true, ltb-false, lt-ltb}
+use lib.ListN.{get_or, set}
+use borrow.Author.Tests.{eqb-true, eq-eqb, ne_eqb, ltb-true, ltb-false, lt-ltb}
 use Rattle.sets.specs.Bits.{has, size, without, IsNext}
+use Rattle.sets.specs.Bond.{bits}
 use Rattle.sets.specs.Lists.{sets_in}
 use Rattle.sets.proofs.Laws.{ext, has-and, has-without, lowest}
 use Rattle.sets.proofs.Size.{size-sub, size-pow, and-sub, xor-zero}
 use Rattle.definitions.specs.Search.{set_of}
-use Rattle.definitions.specs.Table.{Table, tail, meets?, max_atoms, max_bonds}
+use Rattle.definitions.specs.Table.{Table, bonds, tail, meets?, max_atoms, max_bonds}
 use Rattle.definitions.specs.Ring.{degree}
 use Rattle.definitions.specs.Walk.{first_that, other_atom, other_bond, onward, walk_from}
-use Rattle.definitions.proofs.Tests.{by, not_passed, clashes, and_both, both_and, some_of}
+use Rattle.definitions.proofs.Tests.{by, clashes, and_both, both_and, some_of}
 use Rattle.definitions.proofs.Lists.{has-set_of, size-set_of}
-use Rattle.table.specs.Ends.{bonds_alone}
 use Rattle.walking.specs.Closing.{closes?}
-use Rattle.walking.proofs.Steps.{First, first_that_lem, first_unique}
-use Rattle.walk.specs.Going.{Standing, OtherIn, Stored, places_left, Noted}
+use Rattle.walking.proofs.Steps.{First, first_that_lem}
+use Rattle.walk.specs.Going.{table_of, Standing, noted}
 use Rattle.walk.specs.declared.round.Place.{Place}
+use Rattle.walk.specs.declared.round.Ring.{Ring}
+use Rattle.walk.specs.declared.round.Walk.{Walk}
 
 -- ---- the other of two
 
@@ -42,34 +46,71 @@ module _ (n : ℕ) (p : ℕ → Bool) where
       ∙ and_assoc (ltb j n) (p j) (has s j) ∙ ap (λ (x : Bool). ltb j n && x) (and_comm (p j) (has s j)) ∙ sym (has-set_of n (λ i. has s i && p i) j))
 
   module _ (k : ℕ) where
+    -- passes beside k
+    abbrev beside? : ℕ → Bool
+    beside? j = p j && not (eqb k j)
+
     -- those that pass beside k
-    beside : (j : ℕ) → has (without (set_of n p) k) j ≡ ltb j n && (p j && not (eqb k j))
+    beside : (j : ℕ) → has (without (set_of n p) k) j ≡ ltb j n && beside? j
     beside j = has-without (set_of n p) k j ∙ ap (λ (x : Bool). x && not (eqb k j)) (has-set_of n p j) ∙ and_assoc (ltb j n) (p j) (not (eqb k j))
 
-    -- where two pass, the next beside k is the first that passes beside k
-    next_beside : {m r : ℕ} → n ≤ m → size (set_of n p) ≡ 2 → IsNext m (without (set_of n p) k) 0 r → First n (λ j. p j && not (eqb k j)) r
-    next_beside {m} {r} few two next =
-        let (i, h, _) = lowest (without (set_of n p) k) (pos_of_ne-zero (one_beside (set_of n p) k two)) in
-        let l = ltb-true i n (and_both _ _ (sym (beside i) ∙ h)).0 in
-        let low = by (ltb i r) (λ t. clashes h (next.none i (omega arith) (ltb-true i r t))) (λ t. ltb-false i r t) in
-        let (w, q) = and_both _ _ (sym (beside r) ∙ next.member (omega arith)) in
-        let in_table = ltb-true r n w in
-        record {
-          within = in_table;
-          passes = q;
-          none = λ j b. not_passed _ (λ e. clashes (beside j ∙ both_and (lt-ltb j n (omega arith)) e) (next.none j (omega arith) b));
-        }
+    module _ (two : size (set_of n p) ≡ 2) where
+      -- where two pass, one passes beside k
+      first_beside : First n beside? (first_that n beside?)
+      first_beside =
+          let (i, h, _) = lowest (without (set_of n p) k) (pos_of_ne-zero (one_beside (set_of n p) k two)) in
+          let (w, q) = and_both _ _ (sym (beside i) ∙ h) in
+          first_that_lem n beside? (some_of n beside? i (ltb-true i n w) q)
 
--- the first that passes is the one that a search finds
-pub first_is : {n : ℕ} {p : ℕ → Bool} {k : ℕ} → First n p k → first_that n p ≡ k
-first_is {n} {p} {k} f = first_unique (first_that_lem n p (some_of n p k f.within f.passes)) f
+      -- and the next beside k is the first of them
+      next_beside : {m r : ℕ} → n ≤ m → IsNext m (without (set_of n p) k) 0 r → r ≡ first_that n beside?
+      next_beside {r = r} few next =
+          let f = first_that n beside? in
+          let h = beside f ∙ both_and (lt-ltb f n first_beside.within) first_beside.passes in
+          let low : r ≤ f = by (ltb f r) (λ t. clashes h (next.none f (omega arith) (ltb-true f r t))) (λ t. ltb-false f r t) in
+          let q : beside? r ≡ true = (and_both (ltb r n) (beside? r) (sym (beside r) ∙ next.member (omega (arith, first_beside.within)))).1 in
+          by (ltb r f) (λ t. clashes q (first_beside.none r (ltb-true r f t))) (λ t. omega (arith, ltb-false r f t))
+
+-- ---- the bonds of a ring at an atom
+
+module _ (r : Ring) {a : ℕ} (inside : a < max_atoms) where
+  -- bond j of the ring meets the atom
+  abbrev here? : ℕ → Bool
+  here? j = has (bits r.set) j && meets? (table_of r) a j
+
+  -- where they are two, one of the table is beside k
+  other-within : eqb (degree (table_of r) (bits r.set) a) 2 ≡ true → (k : ℕ) → other_bond (table_of r) (bits r.set) a k < bonds (table_of r)
+  unfolding degree other_bond
+  other-within e k = (first_beside (bonds (table_of r)) here? k (size-set_of _ here? ∙ eqb-true _ 2 e)).within
+
+  -- h are those that the row shares with the ring, and are n
+  module _ {row h n : ℕ} (is : row ≡ get_or (sets_in r.rows.now) a 0) (shared : h ≡ bit_and row (bits r.set)) (all : n ≡ size h) where
+    here : h ≡ set_of (bonds (table_of r)) here?
+    here = shared ∙ ap (λ (x : ℕ). bit_and x (bits r.set)) (is ∙ r.rowed.row a inside) ∙ shared_those (bonds (table_of r)) (meets? (table_of r) a) (bits r.set)
+
+    -- so n is the degree of the atom
+    degree_is : degree (table_of r) (bits r.set) a ≡ n
+    unfolding degree
+    degree_is = sym (all ∙ ap size here ∙ size-set_of _ here?)
+
+    -- where they are not two, none is told
+    pub other_none : (k : ℕ) → n ≢ 2 → None ≡ cond (eqb (degree (table_of r) (bits r.set) a) 2) (Some (other_bond (table_of r) (bits r.set) a k)) None
+    other_none k e = rw (degree_is, ne_eqb n 2 e) refl
+
+    -- and where they are, the next beside k
+    pub other_some : (k : ℕ) {beside j : ℕ} → n ≡ 2 → beside ≡ without h k → IsNext max_bonds beside 0 j
+        → Some j ≡ cond (eqb (degree (table_of r) (bits r.set) a) 2) (Some (other_bond (table_of r) (bits r.set) a k)) None
+    unfolding other_bond
+    other_some k e b next =
+        rw (degree_is, eq-eqb n 2 e)
+        (ap Some (next_beside (bonds (table_of r)) here? k (ap size (sym here) ∙ sym all ∙ e) r.fits.few (rw (b, here) at next)))
 
 -- ---- one step of the definitions, where a bond is left
 
-module _ (M : Table) (s : ℕ) {n : ℕ} (some : 0 < n) (p : ℕ × ℕ) where
+module _ (M : Table) (s : ℕ) {n : ℕ} (some : n ≢ 0) (p : ℕ × ℕ) where
   -- there is a bond less
   one_more : suc (n - 1) ≡ n
-  one_more = omega arith
+  one_more = omega (arith, pos_of_ne-zero some)
 
   -- of the test
   closes_step : (a : ℕ) → closes? M s a n p ≡ eqb (degree M s (onward M s p).0) 2 && cond (eqb (onward M s p).0 a) (eqb (n - 1) 0) (closes? M s a (n - 1) (onward M s p))
@@ -83,122 +124,72 @@ module _ (M : Table) (s : ℕ) {n : ℕ} (some : 0 < n) (p : ℕ × ℕ) where
 
 -- ---- a step of the code
 
--- where the test tells no, nothing need be noted
-noted_not : {bs : List ℕ} {s : ℕ} {at : Place} {v v' c c' : List ℕ} → false ≡ closes? (bonds_alone bs) s at.start at.left (at.atom, at.bond) → Noted bs s at false v v' c c'
-noted_not e = record { told = e; visited = λ t. absurd (false≢true t); crossed = λ t. absurd (false≢true t) }
+-- the walk with a place noted
+abbrev pub noted_here : Walk → Place → Walk
+noted_here w at = record { atoms = set w.atoms at.gone at.atom; bonds = set w.bonds at.gone at.bond }
 
--- with no bond left the walk is not back
-pub noted_end : {bs : List ℕ} {s : ℕ} {at : Place} {v v' c c' : List ℕ} → at.left ≡ 0 → Noted bs s at false v v' c c'
-unfolding closes?
-noted_end {bs} {s} {at} e = noted_not (ap (λ (n : ℕ). closes? (bonds_alone bs) s at.start n (at.atom, at.bond)) (sym e))
-
--- from a place the walk comes to atom b, whose row of bonds is h, and finds the bond `next` there
-pub record Step (bs rows : List ℕ) (s : ℕ) (at : Place) (b h next : ℕ) : Type 0 where
-  pub from : Standing bs rows at
+-- from a place with a bond left the walk comes to atom b
+pub record Step (r : Ring) (at : Place) (b : ℕ) : Type 0 where
+  pub from : Standing r at
   pub some : at.left ≢ 0
-  pub atom : b ≡ other_atom (bonds_alone bs) at.bond at.atom
-  pub row : h ≡ get_or (sets_in rows) b 0
-  pub other : OtherIn (bit_and h s) at.bond next
+  pub atom : b ≡ other_atom (table_of r) at.bond at.atom
 
--- the other atom of the bond is one that there may be
-pub other-inside : {bs rows : List ℕ} {at : Place} {b : ℕ} → Standing bs rows at → b ≡ other_atom (bonds_alone bs) at.bond at.atom → b < max_atoms
-other-inside {bs} {at = at} h e =
-    rw e
-    (by (eqb (tail (bonds_alone bs) at.bond) at.atom)
-    (λ t. rw t (h.fits.ends (2 * at.bond + 1) (omega (arith, h.bond))))
-    (λ t. rw t (h.fits.ends (2 * at.bond) (omega (arith, h.bond)))))
+module _ {r : Ring} {at : Place} {b : ℕ} (p : Step r at b) where
+  -- the table, the set, and the two bonds that there may be of it at the atom
+  abbrev M : Table
+  M = table_of r
 
-module _ {bs rows : List ℕ} {s : ℕ} {at : Place} {b h next : ℕ} (p : Step bs rows s at b h next) where
-  -- bond j of the set meets the atom
-  abbrev here? : ℕ → Bool
-  here? j = has s j && meets? (bonds_alone bs) b j
+  abbrev s : ℕ
+  s = bits r.set
 
-  -- what the set shares with the row are its bonds at the atom
-  here : bit_and h s ≡ set_of (length bs / 2) here?
-  here =
-      ap (λ (x : ℕ). bit_and x s) (p.row ∙ p.from.rowed.row b (other-inside p.from p.atom))
-      ∙ shared_those (length bs / 2) (meets? (bonds_alone bs) b) s
+  abbrev two? : Bool
+  two? = eqb (degree M s b) 2
 
-  -- so they are as many as its degree
-  here_degree : size (bit_and h s) ≡ degree (bonds_alone bs) s b
-  unfolding degree
-  here_degree = ap size here ∙ size-set_of (length bs / 2) here?
+  -- the atom is one that there may be
+  pub atom-inside : b < max_atoms
+  atom-inside =
+      rw p.atom
+      (by (eqb (tail M at.bond) at.atom)
+      (λ t. rw t (r.fits.ends (2 * at.bond + 1) (omega (arith, p.from.bond))))
+      (λ t. rw t (r.fits.ends (2 * at.bond) (omega (arith, p.from.bond)))))
 
-  -- where there are two, the other is found
-  two-found : size (bit_and h s) ≡ 2 → First (length bs / 2) (λ j. here? j && not (eqb at.bond j)) next
-  two-found e =
-      next_beside (length bs / 2) here? at.bond p.from.fits.few (ap size (sym here) ∙ e)
-      (rw here at (p.other.two e))
-
-  -- and where none is found there are not two
-  not_found : next ≡ max_bonds → degree (bonds_alone bs) s b ≢ 2
-  not_found e d = omega (arith, (two-found (here_degree ∙ d)).within, p.from.fits.few)
-
-  -- one is found only where there are two
-  found-two : next ≢ max_bonds → size (bit_and h s) ≡ 2
-  found-two e = by (eqb (size (bit_and h s)) 2) (λ t. eqb-true _ 2 t) (λ t. absurd (e (p.other.not-two (eqb-false _ 2 t))))
-
-  -- the next place is the one to which the definition comes
-  onward_is : next ≢ max_bonds → onward (bonds_alone bs) s (at.atom, at.bond) ≡ (b, next)
-  unfolding onward other_bond
-  onward_is e =
-      ap (λ (a : ℕ). (a, other_bond (bonds_alone bs) s a at.bond)) (sym p.atom)
-      ∙ ap (λ (j : ℕ). (b, j)) (first_is (two-found (found-two e)))
-
-  -- with one bond less to go
-  abbrev next_place : Place
-  next_place = record { start = at.start; gone = at.gone + 1; left = at.left - 1; atom = b; bond = next }
-
-  -- the walk stands there
-  pub standing_next : next ≢ max_bonds → Standing bs rows next_place
-  standing_next e = record {
-    fits = p.from.fits;
-    rowed = p.from.rowed;
-    atom = other-inside p.from p.atom;
-    bond = (two-found (found-two e)).within;
-    room = omega (arith, p.from.room, pos_of_ne-zero p.some);
-  }
-
-  -- what the test tells: no where there are not two bonds
-  closes_none : next ≡ max_bonds → false ≡ closes? (bonds_alone bs) s at.start at.left (at.atom, at.bond)
+  -- without two bonds there the test tells no
+  pub told_none : (j : ℕ) → None ≡ cond two? (Some j) None → false ≡ closes? M s at.start at.left (at.atom, at.bond)
   unfolding onward
-  closes_none e =
-      sym (closes_step (bonds_alone bs) s (pos_of_ne-zero p.some) (at.atom, at.bond) at.start
-      ∙ rw (ne_eqb (degree (bonds_alone bs) s (other_atom (bonds_alone bs) at.bond at.atom)) 2 (λ d. not_found e (ap (degree (bonds_alone bs) s) p.atom ∙ d))) refl)
+  told_none j e =
+      by two? (λ t. absurd (none-some j (rw t at e)))
+      (λ t. sym (closes_step M s p.some (at.atom, at.bond) at.start ∙ rw (← p.atom, t) refl))
 
-  -- and where there are, what it tells at the next place
-  closes_two : next ≢ max_bonds → closes? (bonds_alone bs) s at.start at.left (at.atom, at.bond) ≡ cond (eqb b at.start) (eqb (at.left - 1) 0) (closes? (bonds_alone bs) s at.start (at.left - 1) (b, next))
-  closes_two e =
-      closes_step (bonds_alone bs) s (pos_of_ne-zero p.some) (at.atom, at.bond) at.start
-      ∙ rw (onward_is e, eq-eqb (degree (bonds_alone bs) s b) 2 (sym here_degree ∙ found-two e)) refl
+  -- where the other of two is told
+  module _ {next : ℕ} (e : Some next ≡ cond two? (Some (other_bond M s b at.bond)) None) where
+    -- the next place is the one to which the definition comes
+    onward_is : onward M s (at.atom, at.bond) ≡ (b, next)
+    unfolding onward
+    onward_is = rw (← p.atom) (ap (λ (j : ℕ). (b, j)) (cond_some _ _ _ (sym e)).1)
 
-  -- what is noted here and then of the rest is noted of all
-  stored_all : next ≢ max_bonds → (f : ℕ × ℕ → ℕ) {l out : List ℕ}
-      → Stored (set l at.gone (f (at.atom, at.bond))) (at.gone + 1) (map f (walk_from (bonds_alone bs) s (at.left - 1) (b, next))) out
-      → Stored l at.gone (map f (places_left bs s at)) out
-  stored_all e f h =
-      rw (from_step (bonds_alone bs) s (pos_of_ne-zero p.some) (at.atom, at.bond), onward_is e)
-      (record { list = rw (add-one at.gone) at h.list })
+    -- the walk stands there with one bond less to go
+    pub standing_next : Standing r (record { start = at.start; gone = at.gone + 1; left = at.left - 1; atom = b; bond = next })
+    standing_next = record {
+      atom = atom-inside;
+      bond = let (two, is) = cond_some _ _ _ (sym e) in rw is at (other-within r atom-inside two at.bond);
+      room = omega (arith, p.from.room, pos_of_ne-zero p.some);
+    }
 
-  module _ {v c : List ℕ} where
-    -- no bond was found
-    pub noted_none : {v' c' : List ℕ} → next ≡ max_bonds → Noted bs s at false v v' c c'
-    noted_none e = noted_not (closes_none e)
+    -- the test tells what it tells there
+    told_two : closes? M s at.start at.left (at.atom, at.bond) ≡ cond (eqb b at.start) (eqb (at.left - 1) 0) (closes? M s at.start (at.left - 1) (b, next))
+    told_two = closes_step M s p.some (at.atom, at.bond) at.start ∙ rw (onward_is, (cond_some _ _ _ (sym e)).0) refl
 
-    -- the start is reached
-    pub noted_last : next ≢ max_bonds → b ≡ at.start → Noted bs s at (eqb (at.left - 1) 0) v (set v at.gone at.atom) c (set c at.gone at.bond)
+    pub told_last : b ≡ at.start → eqb (at.left - 1) 0 ≡ closes? M s at.start at.left (at.atom, at.bond)
+    told_last q = sym (told_two ∙ rw (eq-eqb b at.start q) refl)
+
+    pub told_more : {t : Bool} → b ≢ at.start → t ≡ closes? M s at.start (at.left - 1) (b, next) → t ≡ closes? M s at.start at.left (at.atom, at.bond)
+    told_more q h = h ∙ sym (told_two ∙ rw (ne_eqb b at.start q) refl)
+
+    -- what is noted here and then of the rest is noted of all
+    pub noted_more : (w : Walk) {w' : Walk} {t : Bool} → (t ≡ true → w' ≡ noted (noted_here w at) (at.gone + 1) (walk_from M s (at.left - 1) (b, next)))
+        → t ≡ true → w' ≡ noted w at.gone (walk_from M s at.left (at.atom, at.bond))
+    noted_more w h t = rw (from_step M s p.some (at.atom, at.bond), onward_is) (rw (add-one at.gone) at (h t))
+
+    pub noted_last : (w : Walk) → eqb (at.left - 1) 0 ≡ true → noted_here w at ≡ noted w at.gone (walk_from M s at.left (at.atom, at.bond))
     unfolding walk_from
-    noted_last e q = record {
-      told = sym (closes_two e ∙ rw (eq-eqb b at.start q) refl);
-      visited = λ t. stored_all e (λ a. a.0) (rw (eqb-true (at.left - 1) 0 t) (record { list = refl }));
-      crossed = λ t. stored_all e (λ a. a.1) (rw (eqb-true (at.left - 1) 0 t) (record { list = refl }));
-    }
-
-    -- the walk goes on
-    pub noted_more : {v' c' : List ℕ} {r : Bool} → next ≢ max_bonds → b ≢ at.start
-        → Noted bs s next_place r (set v at.gone at.atom) v' (set c at.gone at.bond) c' → Noted bs s at r v v' c c'
-    noted_more e q n = record {
-      told = n.told ∙ sym (closes_two e ∙ rw (ne_eqb b at.start q) refl);
-      visited = λ t. stored_all e (λ a. a.0) (n.visited t);
-      crossed = λ t. stored_all e (λ a. a.1) (n.crossed t);
-    }
+    noted_last w = noted_more w (λ t. rw (eqb-true (at.left - 1) 0 t) refl)

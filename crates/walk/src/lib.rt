@@ -3,65 +3,43 @@
 
 mod round;
 
-ghost use Rattle.std.specs.Prelude.{◌≡◌, cond, ◌/◌, ◌≤◌, length, take};
+ghost use Rattle.std.specs.Prelude.{◌≡◌, cond};
 ghost use Rattle.sets.specs.Bond.{bits};
 ghost use Rattle.definitions.specs.Table as spec;
 ghost use Rattle.definitions.specs.Walk.{walk_atoms, walk_bonds};
-ghost use Rattle.definitions.specs.Answer.{outcome_of, over, refusal_of_walk, written_both};
-ghost use Rattle.table.specs.Ends.{bonds_alone, Fitting};
-ghost use Rattle.table.specs.Rows.{Rowed};
+ghost use Rattle.definitions.specs.Answer.{refusal_of_walk, written_both};
+ghost use Rattle.answers.specs.Told.{told};
 ghost use Rattle.walking.specs.Closing.{walks?};
+ghost use Rattle.walk.specs.Going.{table_of};
 
-use answers::{ATOM_WORDS, Answer, MAX_BONDS, NOTRING, ROOM};
-use round::walk_of;
-use sets::BondSet;
+use answers::{MAX_BONDS, Refusal};
+use round::{Ring, Walk};
+use sets::{BondSet, WordSet};
 
-// Copies the first n bytes of a list over the start of another.
-fn copy_bytes(from: &[u8], n: usize, to: &mut [u8])
-    requires { (n ≤ length from.now) × (n ≤ length to.old) }
-    ensures { to.new ≡ over (take n from.now) to.old }
-{
-    let mut i: usize = 0;
-    while i < n {
-        to[i] = from[i];
-        i += 1;
-    }
-}
-
-// Writes the walk round a set of an accepted table: 9 where one does not come round, then 8 where a list is too short.
+// Writes the walk round a ring of an accepted table: 9 where one does not come round, then 8 where a list is too short.
 fn write_walk(
-    bonds: &[u8],
-    rows: &[u64; ATOM_WORDS],
-    set: BondSet,
+    ring: &Ring<'_>,
     ring_atoms: &mut [u8],
     ring_bonds: &mut [u8],
-) -> Answer
-    requires { Fitting bonds.now × Rowed bonds.now (length bonds.now / 2) rows.now }
-    ensures { outcome_of result.number result.count (ring_atoms.new, ring_bonds.new) ≡ written_both (cond (walks? (bonds_alone bonds.now) (bits set)) 0 spec.NOTRING) (walk_atoms (bonds_alone bonds.now) (bits set), walk_bonds (bonds_alone bonds.now) (bits set)) (ring_atoms.old, ring_bonds.old) }
+) -> Result<usize, Refusal>
+    ensures { told result (ring_atoms.new, ring_bonds.new) ≡ written_both (cond (walks? (table_of ring.now) (bits ring.now.set)) 0 spec.NOTRING) (walk_atoms (table_of ring.now) (bits ring.now.set), walk_bonds (table_of ring.now) (bits ring.now.set)) (ring_atoms.old, ring_bonds.old) }
 {
-    let mut visited = [0u8; MAX_BONDS];
-    let mut crossed = [0u8; MAX_BONDS];
-    let closes = walk_of(bonds, rows, set, &mut visited, &mut crossed);
-    let size = set.size();
-    let short = (ring_atoms.len() < size) | (ring_bonds.len() < size);
+    let mut walk = Walk {
+        atoms: [0; MAX_BONDS],
+        bonds: [0; MAX_BONDS],
+    };
+    let closes = ring.comes_round(&mut walk);
+    let size = ring.set.size();
+    let short = ring_atoms.len() < size || ring_bonds.len() < size;
     if !closes {
-        return Answer {
-            number: NOTRING,
-            count: 0,
-        };
+        return Err(Refusal::NotRing);
     }
     if short {
-        return Answer {
-            number: ROOM,
-            count: 0,
-        };
+        return Err(Refusal::Room);
     }
-    copy_bytes(&visited, size, ring_atoms);
-    copy_bytes(&crossed, size, ring_bonds);
-    Answer {
-        number: 0,
-        count: size,
-    }
+    ring_atoms[..size].copy_from_slice(&walk.atoms[..size]);
+    ring_bonds[..size].copy_from_slice(&walk.bonds[..size]);
+    Ok(size)
 }
 
 // The atoms and the bonds of a ring as one meets them going round, one byte each; the refusals of a table, then 9, then 8.
@@ -71,16 +49,15 @@ pub fn ring_walk(
     set: BondSet,
     ring_atoms: &mut [u8],
     ring_bonds: &mut [u8],
-) -> Answer
-    ensures answer { outcome_of result.number result.count (ring_atoms.new, ring_bonds.new) ≡ written_both (refusal_of_walk (spec.table atoms bonds.now) (bits set)) (walk_atoms (spec.table atoms bonds.now) (bits set), walk_bonds (spec.table atoms bonds.now) (bits set)) (ring_atoms.old, ring_bonds.old) }
+) -> Result<usize, Refusal>
+    ensures answer { told result (ring_atoms.new, ring_bonds.new) ≡ written_both (refusal_of_walk (spec.table atoms bonds.now) (bits set)) (walk_atoms (spec.table atoms bonds.now) (bits set), walk_bonds (spec.table atoms bonds.now) (bits set)) (ring_atoms.old, ring_bonds.old) }
     ensures read { bonds.exit.now ≡ bonds.entry.now }
 {
-    let seen = table::rows_of(atoms, bonds);
-    if seen.number > 0 {
-        return Answer {
-            number: seen.number,
-            count: 0,
-        };
-    }
-    write_walk(bonds, &seen.rows, set, ring_atoms, ring_bonds)
+    let rows = table::rows_of(atoms, bonds)?;
+    let ring = Ring {
+        bonds,
+        rows: &rows,
+        set,
+    };
+    write_walk(&ring, ring_atoms, ring_bonds)
 }

@@ -1,13 +1,10 @@
--- A refusal is handed on; else the rings that are written are those of the basis. Assumes nothing.
-use mathlib.Core.Path.{refl}
-use native.Mathlib.Omega.{arith}
-use Rattle.answers.proofs.Answers.{sets-refused, sets-accepted}
-use Rattle.basis.proofs.Holding.{basis_held}
+-- A refusal is passed on; else the rings that are written are those of the basis. Assumes nothing.
+use mathlib.Core.Path.{◌∙◌}
+use Rattle.answers.proofs.Answers.{passed, sets-refused, sets-accepted}
 use Rattle.basis.proofs.basis_rings.Goals as goal
 
-pub returns-then-basis-gt0 : goal.returns-then-basis-gt0
-returns-then-basis-gt0 c = record { answer = sets-refused _ _ c.basis_of-basis.ensures.number (omega arith); read = refl }
+pub returns-in_err-basis-clause-answer : goal.returns-in_err-basis-clause-answer
+returns-in_err-basis-clause-answer c = passed _ _ _ c.from_residual.ensures.1 ∙ sets-refused _ _ _ c.in_err-basis.ensures.number
 
-pub returns : goal.returns
-returns c = let basis = c.basis_of-basis.ensures in
-    record { answer = sets-accepted _ _ basis.number (omega arith) (basis_held basis (omega arith)).rings c.write_sets.ensures; read = refl }
+pub returns-clause-answer : goal.returns-clause-answer
+returns-clause-answer c = let basis = c.in_ok-basis.ensures in sets-accepted _ _ basis.number basis.rings.rings c.write_sets.ensures

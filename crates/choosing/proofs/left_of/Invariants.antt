@@ -1,12 +1,13 @@
 -- What is left differs from the ring by a sum of sets kept, and its lowest bond rises until no set is kept there. Assumes nothing.
-use Prim.Native.Nat.{◌-◌}
+use Prim.Native.Nat.{◌^◌, ◌<◌}
 use Rattle.sets.specs.Bond.{bits, room}
 use Rattle.sets.specs.Lists.{sets_in}
-use Rattle.spans.proofs.Elimination.{Reducing}
+use Rattle.spans.specs.Elimination.{Left}
+use Rattle.choosing.proofs.Reducing.{from_lowest}
 use Rattle.choosing.proofs.left_of.Given as goal
 
-abbrev pub invariant-loop-k : goal.invariant-loop-k
-invariant-loop-k l = Reducing room (sets_in l.kept) (bits l.initial.rest) (bits l.rest) l.k
+abbrev pub invariant-loop-other : goal.invariant-loop-other
+invariant-loop-other l = (bits l.rest < 2 ^ room) × Left (sets_in l.kept) (bits l.fn.ring) (bits l.rest)
 
-abbrev pub decreases-loop-k : goal.decreases-loop-k
-decreases-loop-k l = room - l.k
+abbrev pub decreases-loop-other : goal.decreases-loop-other
+decreases-loop-other l = from_lowest (bits l.rest)

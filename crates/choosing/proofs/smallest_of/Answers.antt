@@ -3,30 +3,15 @@ use mathlib.Core.Path.{refl}
 use native.Mathlib.Omega.{arith}
 use Rattle.sets.specs.Bond.{room}
 use Rattle.sets.proofs.Lists.{sets-blank}
-use Rattle.choosing.proofs.Selecting.{selecting_none, selecting_room, selecting_more, selecting_full, selecting_all}
+use Rattle.choosing.proofs.Selecting.{selecting_none, selecting_more, selecting_full}
 use borrow.Author.Rules.{rules}
 use Rattle.choosing.proofs.smallest_of.Goals as goal
 
 pub loop-i-init : goal.loop-i-init
 loop-i-init c = (refl, selecting_none c.requires (sets-blank room))
 
-pub shape_of-taken-then-count-want : goal.shape_of-taken-then-count-want
-shape_of-taken-then-count-want c = c.loop-i.invariant.0
-
 pub returns-then-count-want : goal.returns-then-count-want
 returns-then-count-want c = selecting_full c.requires c.loop-i.invariant.1 c.if-count-want.true
 
-pub at-requires : goal.at-requires
-at-requires c = omega (arith, c.requires.within)
-
-pub take_new-count-requires : goal.take_new-count-requires
-take_new-count-requires c = (c.loop-i.invariant.1.state, selecting_room c.requires c.loop-i.invariant.1 c.if-count-want.false)
-
 pub loop-i-preserved : goal.loop-i-preserved
 loop-i-preserved c = (search rules, selecting_more c.requires c.loop-i.invariant.1 (omega arith) c.if-count-want.false c.at.ensures c.take_new-count.ensures)
-
-pub shape_of-taken : goal.shape_of-taken
-shape_of-taken c = c.loop-i.invariant.0
-
-pub returns : goal.returns
-returns c = selecting_all c.requires c.loop-i.invariant.1 c.loop-i-test.false

@@ -1,12 +1,7 @@
--- The sum is compared with each of the rings found, two in a turn. Assumes nothing.
-use Prim.Native.Nat.{◌-◌}
+-- The sum is compared with each of the rings, two in a turn: those that are left decide. Assumes nothing.
 use Rattle.sets.specs.Bond.{bits}
-use Rattle.sets.specs.Lists.{sets_in}
-use Rattle.combining.proofs.Combining.{Tested}
+use Rattle.combining.proofs.Combining.{Left}
 use Rattle.combining.proofs.is_ring.Given as goal
 
-abbrev pub invariant-loop-i : goal.invariant-loop-i
-invariant-loop-i l = Tested (sets_in l.found) l.from l.to (bits l.sum) l.i
-
-abbrev pub decreases-loop-i : goal.decreases-loop-i
-decreases-loop-i l = l.to - l.i
+abbrev pub invariant-loop-pair : goal.invariant-loop-pair
+invariant-loop-pair l = Left l.rings (bits l.sum) l.pair-iterator.size l.pair-iterator.rest.now l.last

@@ -1,18 +1,15 @@
--- The refusal is handed on. What is counted of an accepted table is written as its label. Assumes nothing.
-use mathlib.Core.Path.{refl}
+-- The refusal is passed on. What is counted of an accepted table is written as its label. Assumes nothing.
+use mathlib.Core.Path.{◌∙◌}
 use native.Mathlib.Omega.{arith}
-use Rattle.label.proofs.Labelling.{cleared, sizes_none, label_refused, counted, label_written}
+use Rattle.answers.proofs.Answers.{passed, is_refused}
+use Rattle.label.proofs.Labelling.{cleared, label_written}
 use Rattle.label.proofs.label.Goals as goal
 
-pub count_rings-counts-requires : goal.count_rings-counts-requires
-count_rings-counts-requires c = (cleared, cleared, omega arith)
+pub count_rings-requires : goal.count_rings-requires
+count_rings-requires c = (cleared, cleared, omega arith)
 
-pub returns-then-counts-gt0 : goal.returns-then-counts-gt0
-returns-then-counts-gt0 c = record { answer = label_refused c.count_rings-counts.ensures _ c.if-counts-gt0.true; read = refl }
+pub returns-in_err-counts-clause-answer : goal.returns-in_err-counts-clause-answer
+returns-in_err-counts-clause-answer c = passed _ _ _ c.from_residual.ensures.1 ∙ is_refused _ _ _ c.in_err-counts.ensures.number
 
-pub write_label-requires : goal.write_label-requires
-write_label-requires c = let told = counted c.count_rings-counts.ensures (omega arith) in
-    (sizes_none told.rings, sizes_none told.chosen, omega (arith, told.few))
-
-pub returns : goal.returns
-returns c = record { answer = label_written c.count_rings-counts.ensures (omega arith) _ c.write_label.ensures; read = refl }
+pub returns-clause-answer : goal.returns-clause-answer
+returns-clause-answer c = label_written c.in_ok-counts.ensures _ c.write_label.ensures

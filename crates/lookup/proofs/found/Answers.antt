@@ -1,13 +1,11 @@
 -- `lookup::found` meets its contract: the part from where the search ends to where the run ends. Assumes nothing.
 use native.Mathlib.Omega.{arith}
-use Rattle.lookup.proofs.Laws.{found-room, part-found}
+use Rattle.sets.specs.Lists.{sets_in}
+use Rattle.lookup.proofs.Laws.{start-le, found-room, part-found}
 use Rattle.lookup.proofs.found.Goals as goal
 
-pub overflow_mul-result : goal.overflow_mul-result
-overflow_mul-result c = omega (arith, found-room _ _ c.run_start-start.ensures c.run_end-end.ensures)
-
-pub overflow_mul-result-2 : goal.overflow_mul-result-2
-overflow_mul-result-2 c = omega (arith, found-room _ _ c.run_start-start.ensures c.run_end-end.ensures)
+pub run_end-end-requires : goal.run_end-end-requires
+run_end-end-requires c = omega (arith, c.run_start-start.ensures, start-le c.args.size (sets_in c.args.list.now))
 
 pub offset_bounds-list-start : goal.offset_bounds-list-start
 offset_bounds-list-start c = omega (arith, found-room _ _ c.run_start-start.ensures c.run_end-end.ensures)

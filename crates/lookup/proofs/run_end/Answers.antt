@@ -1,22 +1,20 @@
--- `lookup::run_end` meets its contract: the sets from `start` to i have that size, so the run is those and the run from i on.
--- The measure is what is left of the list. Assumes nothing.
-use borrow.Author.Tests.{eq-eqb, ne_eqb}
-use native.Mathlib.Omega.{arith}
+-- Each set that is passed has that size, and that at which the search ends has another. Assumes nothing.
+use Rattle.std.proofs.Common.{◌≡◌, ℕ, Bool, true, false, eqb, get_or, rules, arith, tests}
+use Rattle.std.proofs.lemmas.Iterator.{first_from_Range}
+use Rattle.sets.specs.Bits.{size}
 use Rattle.sets.specs.Lists.{sets_in}
-use Rattle.lookup.proofs.Laws.{run_here, run_on, run_end}
+use Rattle.lookup.specs.Lookup.{run}
+use Rattle.lookup.proofs.Laws.{ends_at}
 use Rattle.lookup.proofs.run_end.Goals as goal
 
-pub loop-i-preserved : goal.loop-i-preserved
-loop-i-preserved c = let k = c.loop-i.i in
-    let a = c.args in
-    omega (arith, run_on a.size (sets_in a.list.now) k (omega arith) c.bonds_at.ensures (eq-eqb _ _ c.if-bonds_at-size.true))
-
-pub returns-else-bonds_at-size : goal.returns-else-bonds_at-size
-returns-else-bonds_at-size c = let k = c.loop-i.i in
-    let a = c.args in
-    omega (arith, run_here a.size (sets_in a.list.now) k (omega arith) c.bonds_at.ensures (ne_eqb _ _ c.if-bonds_at-size.false))
-
-pub returns-after-loop-i : goal.returns-after-loop-i
-returns-after-loop-i c = let k = c.loop-i.i in
-    let a = c.args in
-    omega (arith, run_end a.size (sets_in a.list.now) k (omega arith))
+pub returns : goal.returns
+unfolding run
+returns c =
+    let l = sets_in c.args.list.now in
+    let same : ℕ → Bool = λ s. eqb (size s) c.args.size in
+    omega (
+      arith,
+      c.unwrap_or.ensures,
+      ends_at same l c.args.start c.find.result c.sets_in-n.ensures (omega (arith, c.sets_in-n.ensures, c.requires))
+          (first_from_Range _ _ _ _ (λ (i : ℕ). same (get_or l i 0) ≡ false) (λ (i : ℕ). same (get_or l i 0) ≡ true) c.find.ensures.ran (λ x q k. grind (arith, tests)) (λ x q k. (search rules, grind (arith, tests)))),
+    )

@@ -1,24 +1,20 @@
--- `lookup::run_start` meets its contract: the i sets that are passed have another size, so the first of that size is the i sets and
--- the first from there on. The measure is what is left of the list. Assumes nothing.
-use mathlib.Core.Path.{ap}
-use mathlib.Core.Bool.{not}
-use borrow.Author.Tests.{eq-eqb, ne_eqb}
-use native.Mathlib.Omega.{arith}
+-- Each set that is passed has another size, and that at which the search ends has it. Assumes nothing.
+use Rattle.std.proofs.Common.{◌≡◌, ℕ, Bool, true, false, not, eqb, get_or, rules, arith, tests}
+use Rattle.std.proofs.lemmas.Iterator.{first_from_Range}
+use Rattle.sets.specs.Bits.{size}
 use Rattle.sets.specs.Lists.{sets_in}
-use Rattle.lookup.proofs.Laws.{start_here, start-on, start-end}
+use Rattle.lookup.specs.Lookup.{start}
+use Rattle.lookup.proofs.Laws.{ends_at}
 use Rattle.lookup.proofs.run_start.Goals as goal
 
-pub loop-i-preserved : goal.loop-i-preserved
-loop-i-preserved c = let k = c.loop-i.i in
-    let a = c.args in
-    omega (arith, start-on a.size (sets_in a.list.now) k (omega arith) c.bonds_at.ensures (ap not (ne_eqb _ _ c.if-bonds_at-size.true)))
-
-pub returns-else-bonds_at-size : goal.returns-else-bonds_at-size
-returns-else-bonds_at-size c = let k = c.loop-i.i in
-    let a = c.args in
-    omega (arith, start_here a.size (sets_in a.list.now) k (omega arith) c.bonds_at.ensures (ap not (eq-eqb _ _ c.if-bonds_at-size.false)))
-
-pub returns-after-loop-i : goal.returns-after-loop-i
-returns-after-loop-i c = let k = c.loop-i.i in
-    let a = c.args in
-    omega (arith, start-end a.size (sets_in a.list.now) k (omega arith))
+pub returns : goal.returns
+unfolding start
+returns c =
+    let l = sets_in c.args.list.now in
+    let other : ℕ → Bool = λ s. not (eqb (size s) c.args.size) in
+    omega (
+      arith,
+      c.unwrap_or.ensures,
+      ends_at other l 0 c.find.result c.sets_in-n.ensures (omega arith)
+          (first_from_Range _ _ _ _ (λ (i : ℕ). other (get_or l i 0) ≡ false) (λ (i : ℕ). other (get_or l i 0) ≡ true) c.find.ensures.ran (λ x q k. grind (arith, tests)) (λ x q k. (search rules, grind (arith, tests)))),
+    )

@@ -1,37 +1,52 @@
 -- The refusals are tried in order, and the sums of one assembly after another are added up. Assumes nothing.
 use mathlib.Core.Path.{◌≡◌, sym, ap, ◌∙◌}
+use mathlib.Core.List.{[], ◌∷◌, map}
 use native.Mathlib.Omega.{arith}
-use lib.ListN.{get_or}
+use lib.ListN.{length, get_or, length-append}
 use Rattle.sets.specs.Bits.{size}
-use Rattle.basis.specs.Held.{members_of}
-use Rattle.basis.proofs.Holding.{members-at}
-use Rattle.perception.proofs.Perceiving.{added_none, added_tangled, added_empty, added_fits, added_more, added_untangled, added_all, perceives_refused, perceives_tangled, perceives_all}
+use Rattle.sets.specs.Ring.{bits}
+use Rattle.basis.proofs.Holding.{left_all, left_inside, left_at, left_next, left_none}
+use Rattle.perception.proofs.Perceiving.{added_none, added_tangled, added_fits, added_more, added_untangled, added_all, perceives_refused, perceives_tangled, perceives_all}
 use Rattle.perception.proofs.perceive.Goals as goal
 use Rattle.perception.proofs.perceive.Goals.{After-size-rings}
 
-pub returns-then-basis-gt0 : goal.returns-then-basis-gt0
-returns-then-basis-gt0 c = perceives_refused c.basis_of-basis.ensures c.if-basis-gt0.true c.refused.ensures
+pub returns-in_err-basis : goal.returns-in_err-basis
+returns-in_err-basis c = perceives_refused _ _ c.in_err-basis.ensures c.from_residual.ensures.1
 
-pub loop-a-init : goal.loop-a-init
-loop-a-init c = added_none _ _
+pub loop-members-init : goal.loop-members-init
+loop-members-init c = (left_all _, added_none _ _)
 
 -- what is found at a place is the size of the set of assembly a
-told : (c : After-size-rings) → c.size-rings.result ≡ size (get_or (members_of c.assemblies_of-assemblies.result) c.loop-a.a 0)
-told c = c.size-rings.ensures.0 ∙ ap size (sym (members-at c.assemblies_of-assemblies.result.members c.loop-a.a))
+told : (c : After-size-rings) → c.size-rings.result ≡ size (get_or (map bits c.into_iter-members-iterator.result.rest.now) (length c.loop-members.yielded) 0)
+told c = c.size-rings.ensures.0 ∙ ap size (sym (left_at c.loop-members.invariant.0 c.in-Some.ensures.steps))
 
 pub returns-then-rings-gt-MAX_ASSEMBLY : goal.returns-then-rings-gt-MAX_ASSEMBLY
-returns-then-rings-gt-MAX_ASSEMBLY c = perceives_tangled c.basis_of-basis.ensures (omega arith) c.assemblies_of-assemblies.ensures
-    (added_tangled c.loop-a.invariant (omega arith) (told (goal.at.returns-then-rings-gt-MAX_ASSEMBLY c).After-size-rings) (omega arith)) c.refused-then-rings-gt-MAX_ASSEMBLY.ensures
-
-pub overflow_sub-sums : goal.overflow_sub-sums
-overflow_sub-sums c = added_empty c.loop-a.invariant (omega arith) (told (goal.at.overflow_sub-sums c).After-size-rings) (omega arith)
+returns-then-rings-gt-MAX_ASSEMBLY c =
+    let same = c.into_iter-members-iterator.ensures.into_iter_gives.0 in
+    perceives_tangled c.in_ok-basis.ensures c.assemblies_of-assemblies.ensures
+    (rw same at (added_tangled c.loop-members.invariant.1 (left_inside c.loop-members.invariant.0 c.in-Some.ensures.steps)
+    (told (goal.at.returns-then-rings-gt-MAX_ASSEMBLY c).After-size-rings) (omega arith)))
 
 pub overflow_add-sums : goal.overflow_add-sums
-overflow_add-sums c = omega (arith, added_fits c.loop-a.invariant (omega arith) (told (goal.at.overflow_add-sums c).After-size-rings) (omega arith) c.assemblies_of-assemblies.ensures.counted)
+overflow_add-sums c =
+    omega (
+      arith,
+      added_fits c.loop-members.invariant.1 (left_inside c.loop-members.invariant.0 c.in-Some.ensures.steps)
+          (told (goal.at.overflow_add-sums c).After-size-rings) (omega arith)
+          (omega (arith, ap length c.into_iter-members-iterator.ensures.into_iter_gives.0, c.assemblies_of-assemblies.ensures.counted)),
+    )
 
-pub loop-a-preserved : goal.loop-a-preserved
-loop-a-preserved c = added_more c.loop-a.invariant (omega arith) (told (goal.at.loop-a-preserved c).After-size-rings) (omega arith)
+pub loop-members-preserved : goal.loop-members-preserved
+loop-members-preserved c =
+    let left = c.loop-members.invariant.0 in
+    rw (length-append c.loop-members.yielded (c.in-Some.members ∷ [])) (
+      left_next left c.in-Some.ensures.steps,
+      added_more c.loop-members.invariant.1 (left_inside left c.in-Some.ensures.steps) (told (goal.at.loop-members-preserved c).After-size-rings) (omega arith),
+    )
 
 pub returns : goal.returns
-returns c = perceives_all c.basis_of-basis.ensures (omega arith) c.assemblies_of-assemblies.ensures
-    (added_untangled c.loop-a.invariant (omega arith)) (added_all c.loop-a.invariant (omega arith))
+returns c =
+    let same = c.into_iter-members-iterator.ensures.into_iter_gives.0 in
+    let end = left_none c.loop-members.invariant.0 c.in-None.ensures.steps.0 in
+    perceives_all c.in_ok-basis.ensures c.assemblies_of-assemblies.ensures
+    (rw same at (added_untangled c.loop-members.invariant.1 end)) (rw same at (added_all c.loop-members.invariant.1 end))

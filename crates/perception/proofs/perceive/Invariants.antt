@@ -1,11 +1,12 @@
 -- The refusals are tried in order, and the sums of one assembly after another are added up. Assumes nothing.
-use Prim.Native.Nat.{◌-◌}
-use Rattle.basis.specs.Held.{members_of}
+use mathlib.Core.List.{map}
+use lib.ListN.{length}
+use Rattle.sets.specs.Ring.{bits}
+use Rattle.basis.proofs.Holding.{Left}
 use Rattle.perception.proofs.Perceiving.{Added}
 use Rattle.perception.proofs.perceive.Given as goal
 
-abbrev pub invariant-loop-a : goal.invariant-loop-a
-invariant-loop-a l = Added (members_of l.assemblies) l.assemblies.count l.sums l.a
-
-abbrev pub decreases-loop-a : goal.decreases-loop-a
-decreases-loop-a l = l.assemblies.count - l.a
+abbrev pub invariant-loop-members : goal.invariant-loop-members
+invariant-loop-members l =
+    let all = l.initial.members-iterator.rest.now in
+    Left all (length l.yielded) l.members-iterator.rest.now × Added (map bits all) (length all) l.sums (length l.yielded)

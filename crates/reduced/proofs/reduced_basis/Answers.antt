@@ -1,13 +1,11 @@
--- A refusal is handed on; else the sets that are written are the reduced basis. Assumes nothing.
-use mathlib.Core.Path.{refl}
-use native.Mathlib.Omega.{arith}
-use Rattle.answers.proofs.Answers.{sets-refused, sets-accepted}
+-- A refusal is passed on; else the sets that are written are the reduced basis. Assumes nothing.
+use mathlib.Core.Path.{◌∙◌}
+use Rattle.answers.proofs.Answers.{passed, sets-refused, sets-accepted}
 use Rattle.reduced.proofs.Reducing.{reduces_sets}
 use Rattle.reduced.proofs.reduced_basis.Goals as goal
 
-pub returns-then-found-gt0 : goal.returns-then-found-gt0
-returns-then-found-gt0 c = record { answer = sets-refused _ _ c.reduce-found.ensures.number (omega arith); read = refl }
+pub returns-in_err-found-clause-answer : goal.returns-in_err-found-clause-answer
+returns-in_err-found-clause-answer c = passed _ _ _ c.from_residual.ensures.1 ∙ sets-refused _ _ _ c.in_err-found.ensures.number
 
-pub returns : goal.returns
-returns c = let found = c.reduce-found.ensures in
-    record { answer = sets-accepted _ _ found.number (omega arith) (reduces_sets found (omega arith)) c.write_sets.ensures; read = refl }
+pub returns-clause-answer : goal.returns-clause-answer
+returns-clause-answer c = let found = c.in_ok-found.ensures in sets-accepted _ _ found.number (reduces_sets found) c.write_sets.ensures

@@ -1,28 +1,23 @@
--- Of the sets' bytes, those of the first i are appended. Assumes nothing.
-use mathlib.Core.Path.{sym, ap}
+-- Of the sets' bytes, those of the first ones are written. Assumes nothing.
+use mathlib.Core.Path.{ap}
 use native.Mathlib.Omega.{arith}
 use lib.ListN.{get_or}
 use Rattle.sets.specs.Lists.{sets_in}
 use Rattle.definitions.specs.Label.{bytes_of, set_bytes}
-use Rattle.lent.proofs.Appending.{appended_as, strung_none, strung_more, strung_all, strung_room, strung_length}
+use Rattle.lent.proofs.Writing.{writes_as, strings_none, strings_room, strings_more, strings_all}
 use Rattle.fields.proofs.Bytes.{length-bytes_of, bytes_of_all-gather}
 use Rattle.sidecar.proofs.put_sets.Goals as goal
 
 pub loop-i-init : goal.loop-i-init
-loop-i-init c = let a = c.args in
-    strung_none _ _ _ _ (rw (bytes_of_all-gather set_bytes (sets_in a.sets.now) a.n c.requires.0) at c.requires.1)
+loop-i-init c = strings_none _ _ (omega (arith, c.requires))
 
-pub at-requires : goal.at-requires
-at-requires c = omega (arith, c.requires.0)
-
-pub put_set-next-requires : goal.put_set-next-requires
-put_set-next-requires c = omega (arith, strung_room c.loop-i.invariant (omega arith), length-bytes_of set_bytes (get_or (sets_in c.args.sets.now) c.loop-i.i 0))
+pub put_set-requires : goal.put_set-requires
+put_set-requires c = let sets = sets_in c.args.sets.now in
+    let i = c.loop-i.i in
+    omega (arith, strings_room _ c.loop-i.invariant (omega arith) (bytes_of_all-gather set_bytes sets) c.requires, length-bytes_of set_bytes (get_or sets i 0))
 
 pub loop-i-preserved : goal.loop-i-preserved
-loop-i-preserved c = strung_more c.loop-i.invariant (omega arith) (appended_as (ap (bytes_of set_bytes) c.at.ensures) c.put_set-next.ensures)
-
-pub shape_of-out : goal.shape_of-out
-shape_of-out c = strung_length c.loop-i.invariant
+loop-i-preserved c = strings_more _ c.loop-i.invariant (writes_as c.put_set.ensures (ap (bytes_of set_bytes) c.at.ensures))
 
 pub returns : goal.returns
-returns c = appended_as (sym (bytes_of_all-gather _ _ _ c.requires.0)) (strung_all c.loop-i.invariant (omega arith))
+returns c = strings_all _ c.loop-i.invariant (omega arith) (bytes_of_all-gather set_bytes (sets_in c.args.sets.now))

@@ -1,24 +1,16 @@
 -- A refused table is told so; of an accepted one the walk answers. Assumes nothing.
-use mathlib.Core.Path.{◌≡◌, refl}
-use native.Mathlib.Omega.{arith}
-use Rattle.definitions.specs.Table.{table, refusal}
+use mathlib.Core.Path.{sym, ◌∙◌}
 use Rattle.definitions.proofs.Refusals.{accepted}
 use Rattle.table.proofs.Fitting.{valid_fitting}
+use Rattle.answers.proofs.Answers.{passed}
 use Rattle.walk.proofs.Answering.{alone_answer, refused_answer}
 use Rattle.walk.proofs.ring_walk.Goals as goal
-use Rattle.walk.proofs.ring_walk.Goals.{Else-seen-gt0}
 
-pub returns-then-seen-gt0 : goal.returns-then-seen-gt0
-returns-then-seen-gt0 c = record { answer = refused_answer _ _ _ c.rows_of-seen.ensures.number c.if-seen-gt0.true _; read = refl }
+pub returns-in_err-rows-clause-answer : goal.returns-in_err-rows-clause-answer
+returns-in_err-rows-clause-answer c = passed _ _ _ c.from_residual.ensures.1 ∙ refused_answer _ _ _ _ c.in_err-rows.ensures.number _
 
--- the table is accepted
-free : (c : Else-seen-gt0) → refusal (table c.args.atoms c.args.bonds.now) ≡ 0
-free c = omega (arith, c.rows_of-seen.ensures.number, c.if-seen-gt0.false)
+pub invariant_of-ring : goal.invariant_of-ring
+invariant_of-ring c = let rows = c.in_ok-rows.ensures in record { fits = valid_fitting ((accepted _).0 (sym rows.number)); rowed = rows.rows }
 
-pub write_walk-requires : goal.write_walk-requires
-write_walk-requires c =
-    let none = free (goal.at.write_walk-requires c).Else-seen-gt0 in
-    (valid_fitting ((accepted _).0 none), c.rows_of-seen.ensures.accepted none)
-
-pub returns : goal.returns
-returns c = record { answer = alone_answer _ _ _ (free (goal.at.returns c).Else-seen-gt0) _ c.write_walk.ensures; read = refl }
+pub returns-clause-answer : goal.returns-clause-answer
+returns-clause-answer c = alone_answer _ _ _ (sym c.in_ok-rows.ensures.number) _ c.write_walk.ensures

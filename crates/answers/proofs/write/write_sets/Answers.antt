@@ -1,44 +1,52 @@
--- The list is long enough or is refused, and before each turn the first i sets stand over its start. Assumes nothing.
-use mathlib.Core.Path.{◌≡◌, refl, sym, ap, ◌∙◌}
-use mathlib.Core.List.{List}
-use Prim.Native.Nat.{ℕ}
+-- The words of the first sets are the first words of the list. Assumes nothing.
+use mathlib.Core.Path.{◌≡◌, refl, sym, ap, ap₂, ◌∙◌}
 use native.Mathlib.Omega.{arith}
-use lib.ListN.{length, take, length-take}
-use Rattle.sets.specs.Lists.{sets_in, in_words}
-use Rattle.sets.proofs.Lists.{take_min, sets_lack, sets-room}
+use lib.ListN.{length, take, drop, length-take}
+use lib.Seq.{length-take-le}
+use Rattle.std.proofs.Common.{List, ℕ, ◌++◌, ◌*◌, ◌≤◌}
+use Rattle.sets.specs.Lists.{sets_in, in_words, words_of}
+use Rattle.sets.proofs.Lists.{in_words-take, in_words-length, take_min, sets-room, sets_lack, words_are}
 use Rattle.definitions.specs.Answer.{over}
 use Rattle.answers.proofs.Answers.{sets_short, sets_full}
-use Rattle.answers.proofs.Copying.{copied_none, copied_length, copied_room, copied_more, copied_all}
 use Rattle.answers.proofs.write.write_sets.Goals as goal
-use Rattle.answers.proofs.write.write_sets.Goals.{After-sets_up_to-wanted}
+use Rattle.answers.proofs.write.write_sets.Goals.{After-sets_up_to-wanted, Else-sets_in-wanted}
 
 -- as many are wanted as there are of the first
 counted : (c : After-sets_up_to-wanted) → c.sets_up_to-wanted.result ≡ length (take c.args.count (sets_in c.args.sets.now))
 counted c = c.sets_up_to-wanted.ensures ∙ sym (length-take c.args.count (sets_in c.args.sets.now))
 
+-- both lists have their words
+read : (c : Else-sets_in-wanted) → c.sets_up_to-wanted.result * 1 ≤ length c.args.sets.now
+read c = omega (arith, words_are c.sets_up_to-wanted.result, sets-room c.sets_up_to-wanted.result c.args.sets.now (omega (arith, c.sets_up_to-wanted.ensures)))
+
+room : (c : Else-sets_in-wanted) → c.sets_up_to-wanted.result * 1 ≤ length c.args.out.now
+room c = omega (arith, words_are c.sets_up_to-wanted.result, sets-room c.sets_up_to-wanted.result c.args.out.now (omega arith))
+
 pub returns-then-sets_in-wanted : goal.returns-then-sets_in-wanted
-returns-then-sets_in-wanted c = sets_short _ _ refl (omega arith) (counted (goal.at.returns-then-sets_in-wanted c).After-sets_up_to-wanted) (sets_lack c.sets_up_to-wanted.result c.args.out.now (omega arith))
+returns-then-sets_in-wanted c =
+    sets_short _ _ refl (counted (goal.at.returns-then-sets_in-wanted c).After-sets_up_to-wanted)
+    (sets_lack c.sets_up_to-wanted.result c.args.out.now (omega arith))
 
-pub loop-i-init : goal.loop-i-init
-loop-i-init c = copied_none _ _ _ (omega (arith, c.sets_up_to-wanted.ensures)) (omega arith)
+pub slice_bounds-copy_from_slice-end : goal.slice_bounds-copy_from_slice-end
+slice_bounds-copy_from_slice-end c = room c
 
-pub at-requires : goal.at-requires
-at-requires c = omega (arith, c.loop-i.invariant.few)
+pub slice_bounds-copy_from_slice-end-2 : goal.slice_bounds-copy_from_slice-end-2
+slice_bounds-copy_from_slice-end-2 c = sym (length-take-le _ _ (room (goal.at.slice_bounds-copy_from_slice-end-2 c).Else-sets_in-wanted))
 
-pub put_at-requires : goal.put_at-requires
-put_at-requires c = copied_room c.loop-i.invariant (omega arith)
+pub slice_bounds-copy_from_slice-end-3 : goal.slice_bounds-copy_from_slice-end-3
+slice_bounds-copy_from_slice-end-3 c = sym (length-take-le _ _ (read (goal.at.slice_bounds-copy_from_slice-end-3 c).Else-sets_in-wanted))
 
-pub loop-i-smaller : goal.loop-i-smaller
-loop-i-smaller c = omega arith
-
-pub loop-i-preserved : goal.loop-i-preserved
-loop-i-preserved c = copied_more c.loop-i.invariant (omega arith) c.at.ensures c.put_at.ensures
-
-pub shape_of-out : goal.shape_of-out
-shape_of-out c = copied_length c.loop-i.invariant
+pub copy_from_slice-requires : goal.copy_from_slice-requires
+copy_from_slice-requires c = let p = (goal.at.copy_from_slice-requires c).Else-sets_in-wanted in length-take-le _ _ (room p) ∙ sym (length-take-le _ _ (read p))
 
 pub returns : goal.returns
-returns c = let all = c.loop-i.invariant in
-    let first = ap (λ (n : ℕ). take n (sets_in c.args.sets.now)) c.sets_up_to-wanted.ensures ∙ take_min c.args.count (sets_in c.args.sets.now) in
-    sets_full _ _ refl (omega arith) (counted (goal.at.returns c).After-sets_up_to-wanted) (sets-room c.sets_up_to-wanted.result c.args.out.now all.room)
-    (copied_all all (omega arith) ∙ ap (λ (l : List ℕ). over (in_words l) c.args.out.now) first)
+unfolding over
+returns c =
+    let n = c.sets_up_to-wanted.result in
+    let sets = c.args.sets.now in
+    let first = ap (λ (k : ℕ). take k (sets_in sets)) c.sets_up_to-wanted.ensures ∙ take_min c.args.count (sets_in sets) in
+    let spelt = ap (λ (m : ℕ). take m sets) (sym (words_are n)) ∙ sym (in_words-take n sets (λ i. omega (arith, c.type_inv.sets i)) (omega (arith, c.sets_up_to-wanted.ensures))) ∙ ap in_words first in
+    let long : n * 1 ≡ length (in_words (take c.args.count (sets_in sets))) =
+    sym (words_are n) ∙ ap words_of (counted (goal.at.returns c).After-sets_up_to-wanted) ∙ sym (in_words-length _) in
+    sets_full _ _ refl (counted (goal.at.returns c).After-sets_up_to-wanted) (omega (arith, words_are n, room (goal.at.returns c).Else-sets_in-wanted))
+    (ap₂ (λ (words : List ℕ) (m : ℕ). words ++ drop m c.args.out.now) (c.copy_from_slice.ensures.after ∙ spelt) long)

@@ -1,16 +1,13 @@
--- Before each turn the first assemblies are found and the rings of the others are left, the first of them next. Assumes nothing.
+-- Before each turn the first assemblies are found and the rings of the others are left. Assumes nothing.
 use Prim.Native.Nat.{◌-◌}
-use lib.ListN.{take}
-use Rattle.sets.specs.Bits.{IsNext}
+use lib.ListN.{length}
 use Rattle.sets.specs.Ring.{bits, room}
 use Rattle.sets.specs.Lists.{sets_in}
-use Rattle.definitions.specs.Table.{max_bonds}
 use Rattle.basis.proofs.Numbering.{Divided}
 use Rattle.basis.proofs.assembly.assemblies_of.Given as goal
 
 abbrev pub invariant-loop-first : goal.invariant-loop-first
-invariant-loop-first l =
-    Divided (take l.known (sets_in l.rings)) l.members l.assemblies (bits l.left) × IsNext room (bits l.left) 0 l.first
+invariant-loop-first l = Divided (sets_in l.known) l.found.items (bits l.left)
 
 abbrev pub decreases-loop-first : goal.decreases-loop-first
-decreases-loop-first l = max_bonds - l.assemblies
+decreases-loop-first l = room - length l.found.items

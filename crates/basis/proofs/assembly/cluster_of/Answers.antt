@@ -1,47 +1,26 @@
--- Before each turn the cluster is a group of the first ring, and where the last pass added nothing it is apart from the rings left.
--- Assumes nothing.
-use mathlib.Core.Path.{sym, ◌∙◌}
-use Prim.Native.Nat.{◌<◌}
+-- Before each pass the cluster is a group of the first ring. Assumes nothing.
 use native.Mathlib.Omega.{arith}
-use lib.ListN.{take}
-use lib.Seq.{length-take-le, get_or-take}
 use borrow.Author.Rules.{rules}
 use Rattle.sets.specs.Ring.{bits, room}
 use Rattle.sets.specs.Lists.{sets_in}
-use Rattle.sets.proofs.Lists.{sets-whole}
-use Rattle.definitions.specs.Table.{max_bonds}
-use Rattle.basis.proofs.Grouping.{without_old, grouped_one, collecting_none, collecting_more, collecting_less}
+use Rattle.sets.proofs.Laws.{member_below}
+use Rattle.sets.proofs.Machine.{ring-lt}
+use Rattle.basis.proofs.Grouping.{grouped_one, pass_falls, pass_apart}
 use Rattle.basis.proofs.assembly.cluster_of.Goals as goal
-use Rattle.basis.proofs.assembly.cluster_of.Goals.{Start}
 
--- there is a place for the first ring
-low : (c : Start) → c.args.first < room
-low c = omega (arith, c.requires.0, c.requires.2 c.args.first c.requires.1)
+pub loop-cluster-init : goal.loop-cluster-init
+loop-cluster-init c = let low = member_below room c.args.first (ring-lt c.args.left (search rules)) c.requires.first in
+    grouped_one (sets_in c.args.rings.now) c.args.first (bits c.args.left) c.requires.inside c.requires.first low
+    c.only.ensures c.at.ensures c.without.ensures
 
-pub at-requires : goal.at-requires
-at-requires c = omega (arith, low (goal.at.at-requires c).Start, sets-whole max_bonds c.args.rings.now (search rules))
+pub returns-then-size-before-clause-grouped : goal.returns-then-size-before-clause-grouped
+returns-then-size-before-clause-grouped c = c.passed-cluster.ensures.kept _ _ c.loop-cluster.invariant
 
-pub loop-grew-init : goal.loop-grew-init
-loop-grew-init c = collecting_none _ _ _
+pub returns-then-size-before-clause-apart : goal.returns-then-size-before-clause-apart
+returns-then-size-before-clause-apart c = pass_apart c.passed-cluster.ensures (omega (arith, c.size.ensures.0, c.size-before.ensures.0))
 
-pub passed-cluster-requires : goal.passed-cluster-requires
-passed-cluster-requires c = let old = without_old (bits c.args.left) c.args.first in
-    (c.requires.0, λ i e. c.requires.2 i (old i (rw c.without.ensures at (c.loop-grew.invariant.fewer i e))))
+pub loop-cluster-smaller : goal.loop-cluster-smaller
+loop-cluster-smaller c = pass_falls c.passed-cluster.ensures (omega (arith, c.size.ensures.0, c.size-before.ensures.0))
 
-pub loop-grew-smaller : goal.loop-grew-smaller
-loop-grew-smaller c = collecting_less c.loop-grew-test.true c.passed-cluster.ensures c.size-before.ensures.0 c.size.ensures.0
-
-pub loop-grew-preserved : goal.loop-grew-preserved
-loop-grew-preserved c = collecting_more c.loop-grew.invariant c.passed-cluster.ensures c.size-before.ensures.0 c.size.ensures.0
-
-pub returns : goal.returns
-returns c = let first = c.args.first in
-    let rings = sets_in c.args.rings.now in
-    let count = c.args.count in
-    let long = length-take-le count rings (omega (arith, c.requires.0, sets-whole max_bonds c.args.rings.now (search rules))) in
-    let bonds = c.at.ensures ∙ sym (get_or-take count rings first 0 (c.requires.2 first c.requires.1)) in
-    let one =
-    grouped_one (take count rings) first (bits c.args.left) (λ i e. omega (arith, c.requires.2 i e)) c.requires.1 (low (goal.at.returns c).Start)
-    c.only.ensures bonds c.without.ensures
-    in
-    (c.loop-grew.invariant.kept (bits c.args.left) one, c.loop-grew.invariant.apart c.loop-grew-test.false)
+pub loop-cluster-preserved : goal.loop-cluster-preserved
+loop-cluster-preserved c = c.passed-cluster.ensures.kept _ _ c.loop-cluster.invariant

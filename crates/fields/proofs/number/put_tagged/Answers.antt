@@ -1,10 +1,6 @@
--- The tag is stored, and the number appended after it. Assumes nothing.
-use Prim.Native.Nat.{◌<◌}
-use native.Mathlib.Omega.{arith}
-use lib.ListN.{length}
-use Rattle.lent.proofs.Appending.{appended_byte, appended_more}
+-- The tag is written, and the number after it. Assumes nothing.
+use Rattle.lent.proofs.Writing.{writes_more}
 use Rattle.fields.proofs.number.put_tagged.Goals as goal
 
 pub returns : goal.returns
-returns c = let h : c.args.at < length c.args.out.now = omega arith in
-    appended_more (omega arith) (appended_byte c.args.out.now c.args.at c.args.tag h) c.put_number.ensures
+returns c = writes_more c.byte.ensures c.put_number.ensures

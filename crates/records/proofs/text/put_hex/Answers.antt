@@ -1,26 +1,24 @@
--- Of the bytes, those before i are appended in hex. Assumes nothing.
-use mathlib.Core.Path.{sym, ap}
+-- The library's hex, two digits a byte, stands over its part of the list. Assumes nothing.
+use mathlib.Core.Path.{◌∙◌}
 use native.Mathlib.Omega.{arith}
-use lib.ListN.{length}
-use Rattle.definitions.specs.Text.{hex}
-use Rattle.lent.proofs.Appending.{strung_none, strung_more, strung_all, strung_room, strung_length, appended_as}
-use Rattle.records.proofs.Digits.{hex-gather}
+use borrow.Author.Rules.{rules}
+use Rattle.records.proofs.Digits.{encoded-hex, length-hex}
+use Rattle.records.proofs.Writing.{appended_part}
 use Rattle.records.proofs.text.put_hex.Goals as goal
 
-pub loop-i-init : goal.loop-i-init
-loop-i-init c = let a = c.args in strung_none _ _ _ _ (omega (arith, ap length (hex-gather a.bytes.now a.n (omega arith))))
+pub overflow_add-end : goal.overflow_add-end
+overflow_add-end c = omega (arith, length-hex c.args.bytes.now, c.requires)
 
-pub put_byte-next-requires : goal.put_byte-next-requires
-unfolding hex
-put_byte-next-requires c = omega (arith, strung_room c.loop-i.invariant (omega arith))
-
-pub loop-i-preserved : goal.loop-i-preserved
-loop-i-preserved c = strung_more c.loop-i.invariant (omega arith) c.put_byte-next.ensures
-
-pub shape_of-out : goal.shape_of-out
-shape_of-out c = strung_length c.loop-i.invariant
+pub slice_bounds-encode_to_slice-end : goal.slice_bounds-encode_to_slice-end
+slice_bounds-encode_to_slice-end c = omega (arith, length-hex c.args.bytes.now, c.requires)
 
 pub returns : goal.returns
 returns c =
-    let a = c.args in
-    appended_as (sym (hex-gather a.bytes.now a.n (omega arith))) (strung_all c.loop-i.invariant (omega arith))
+    let bytes = c.args.bytes.now in
+    record {
+      room = c.requires;
+      appended =
+          appended_part c.args.writer.now.out.now (rw c.unwrap.ensures at c.encode_to_slice.ensures.written ∙ encoded-hex bytes (λ i. omega (arith, c.type_inv.bytes i)))
+          (omega (arith, length-hex bytes)) (omega (arith, length-hex bytes));
+      same = search rules;
+    }

@@ -1,16 +1,17 @@
 -- The space stands after the number. Assumes nothing.
 use native.Mathlib.Omega.{arith}
-use Rattle.lent.proofs.Appending.{appended_more}
+use Rattle.lent.proofs.Writing.{writes_room, writes_more}
 use Rattle.records.specs.Spaced.{spaced}
 use Rattle.records.proofs.Writing.{length-spaced}
 use Rattle.records.proofs.text.put_spaced.Goals as goal
 
-pub put_decimal-number_end-requires : goal.put_decimal-number_end-requires
-put_decimal-number_end-requires c = omega (arith, length-spaced c.args.number)
+pub put_decimal-requires : goal.put_decimal-requires
+put_decimal-requires c = omega (arith, length-spaced c.args.number, c.requires)
 
-pub put_text-requires : goal.put_text-requires
-put_text-requires c = omega (arith, length-spaced c.args.number)
+pub byte-requires : goal.byte-requires
+unfolding spaced
+byte-requires c = omega (arith, writes_room c.put_decimal.ensures _ c.requires)
 
 pub returns : goal.returns
 unfolding spaced
-returns c = appended_more (omega arith) c.put_decimal-number_end.ensures c.put_text.ensures
+returns c = writes_more c.put_decimal.ensures c.byte.ensures

@@ -1,44 +1,60 @@
--- The label has room, so its answer makes the record's line, and the answer's number is a byte, so the line is short enough.
--- Assumes nothing.
+-- The label has room, so what is told of it makes the record's line, which is short enough. Assumes nothing.
 use mathlib.Core.Path.{ap}
-use Prim.Native.Nat.{◌*◌, ◌≤◌}
+use Prim.Native.Nat.{◌+◌, ◌*◌, ◌≤◌}
 use native.Mathlib.Omega.{arith}
 use lib.ListN.{length}
-use Rattle.definitions.specs.Records.{record_table, record_bytes}
+use lib.Seq.{length-take-le}
+use borrow.Author.Rules.{rules}
+use Rattle.definitions.specs.Table.{table}
+use Rattle.definitions.specs.Records.{head_bytes}
 use Rattle.definitions.specs.Ringline.{record_line}
-use Rattle.lent.proofs.Appending.{appended_as}
-use Rattle.records.proofs.Records.{whole-fits}
-use Rattle.ringline.proofs.Answering.{Replied, record_answered, line-most}
+use Rattle.lent.proofs.Writing.{writes_as}
+use Rattle.ringline.proofs.Answering.{Replied, replied, line-most, label_within, label_line, refusal_line}
 use Rattle.ringline.proofs.render.put_record.Goals as goal
-use Rattle.ringline.proofs.render.put_record.Goals.{After-label-answer}
+use Rattle.ringline.proofs.render.put_record.Goals.{After-label}
 
--- the answer makes the record's line
-answer : (c : After-label-answer) → Replied (record_table c.args.rest.now) c.label-answer.result.number c.label-answer.result.count c.label-answer.new.out
-answer c =
-    record_answered c.args.rest.now _ _ _ c.label_room-bytes.result c.atoms_of-atoms.ensures
-    c.record_bytes-end.ensures c.label_room-bytes.ensures c.label-answer.ensures.answer
+-- what is told of the label
+told : (c : After-label) → Replied (table c.args.given.atoms c.args.given.bonds.now) c.label.result c.label.new.out
+told c = replied _ _ _ _ (search rules) c.label.ensures.answer
 
--- which is short enough
-short : (c : After-label-answer) → let a = c.args in length (record_line a.number (record_table a.rest.now)) ≤ 7 * record_bytes a.rest.now
-short c = line-most c.args.number c.args.rest.now c.requires.0 (omega (arith, (answer c).told, c.label-answer.type_inv))
+-- its line is short enough
+short : (c : After-label) → let given = c.args.given in length (record_line c.args.number (table given.atoms given.bonds.now)) ≤ 7 * (head_bytes + length given.bonds.now)
+short c = line-most c.args.number _ c.args.given.bonds.now c.requires.0 (told c)
 
-pub atoms_of-atoms-requires : goal.atoms_of-atoms-requires
-atoms_of-atoms-requires c = omega (arith, whole-fits _ c.requires.1)
+pub slice_bounds-bytes-end : goal.slice_bounds-bytes-end
+slice_bounds-bytes-end c = label_within (told (goal.at.slice_bounds-bytes-end c).After-label) c.in-Ok.is
 
-pub overflow_cast-atoms : goal.overflow_cast-atoms
-overflow_cast-atoms c = omega (arith, c.atoms_of-atoms.type_inv)
-
-pub record_bytes-end-requires : goal.record_bytes-end-requires
-record_bytes-end-requires c = omega (arith, whole-fits _ c.requires.1)
-
-pub slice_bounds-label-end : goal.slice_bounds-label-end
-slice_bounds-label-end c = omega (arith, whole-fits _ c.requires.1)
+pub slice_bounds-put_answer-end : goal.slice_bounds-put_answer-end
+slice_bounds-put_answer-end c =
+    let before = (goal.at.slice_bounds-put_answer-end c).After-label in
+    omega (arith, length-take-le c.in-Ok.count c.label.new.out (label_within (told before) c.in-Ok.is))
 
 pub put_answer-requires : goal.put_answer-requires
-put_answer-requires c = ((answer (goal.at.put_answer-requires c).After-label-answer).within, omega (arith, ap length ((answer (goal.at.put_answer-requires c).After-label-answer).line c.args.number), short (goal.at.put_answer-requires c).After-label-answer))
+put_answer-requires c =
+    let before = (goal.at.put_answer-requires c).After-label in
+    omega (arith, ap length (label_line (told before) c.args.number c.in-Ok.is), short before)
 
-pub returns : goal.returns
-returns c =
-    let written = c.put_answer.ensures in
-    let line = (answer (goal.at.returns c).After-label-answer).line c.args.number in
-    record { appended = appended_as line written; upper_bound = omega (arith, written.end, ap length line, short (goal.at.returns c).After-label-answer) }
+pub put_answer-requires-in-Err : goal.put_answer-requires-in-Err
+put_answer-requires-in-Err c =
+    let before = (goal.at.put_answer-requires-in-Err c).After-label in
+    omega (arith, ap length (refusal_line (told before) c.args.number c.in-Err.is), short before)
+
+pub returns-in-Ok-clause-line : goal.returns-in-Ok-clause-line
+returns-in-Ok-clause-line c =
+    let before = (goal.at.returns-in-Ok-clause-line c).After-label in
+    writes_as c.put_answer.ensures (label_line (told before) c.args.number c.in-Ok.is)
+
+pub returns-in-Ok-clause-upper_bound : goal.returns-in-Ok-clause-upper_bound
+returns-in-Ok-clause-upper_bound c =
+    let before = (goal.at.returns-in-Ok-clause-upper_bound c).After-label in
+    omega (arith, c.put_answer.ensures.appended.end, ap length (label_line (told before) c.args.number c.in-Ok.is), short before)
+
+pub returns-in-Err-clause-line : goal.returns-in-Err-clause-line
+returns-in-Err-clause-line c =
+    let before = (goal.at.returns-in-Err-clause-line c).After-label in
+    writes_as c.put_answer-in-Err.ensures (refusal_line (told before) c.args.number c.in-Err.is)
+
+pub returns-in-Err-clause-upper_bound : goal.returns-in-Err-clause-upper_bound
+returns-in-Err-clause-upper_bound c =
+    let before = (goal.at.returns-in-Err-clause-upper_bound c).After-label in
+    omega (arith, c.put_answer-in-Err.ensures.appended.end, ap length (refusal_line (told before) c.args.number c.in-Err.is), short before)

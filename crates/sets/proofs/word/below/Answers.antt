@@ -3,13 +3,9 @@ use mathlib.Core.Path.{◌≡◌, ap}
 use Prim.Native.Nat.{ℕ, ◌-◌, ◌^◌, min}
 use native.Mathlib.Omega.{arith}
 use borrow.Author.Rules.{rules}
-use lib.Pow.{pow_pos}
 use Rattle.sets.specs.Bits.{all_below}
 use Rattle.sets.proofs.Machine.{one_shl}
 use Rattle.sets.proofs.word.below.Goals as goal
-
-pub overflow_sub-result : goal.overflow_sub-result
-overflow_sub-result c = rw (one_shl 64 c.args.n (search rules)) (pow_pos c.args.n)
 
 pub returns-then-n-lt-SIZE : goal.returns-then-n-lt-SIZE
 unfolding all_below

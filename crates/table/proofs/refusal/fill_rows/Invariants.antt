@@ -2,8 +2,6 @@
 -- Assumes nothing.
 use mathlib.Core.Path.{◌≡◌}
 use mathlib.Core.Bool.{false}
-use Prim.Native.Nat.{◌/◌, ◌-◌, ◌≤◌}
-use lib.ListN.{length}
 use Rattle.definitions.specs.Search.{some?}
 use Rattle.definitions.specs.Table.{seen_before?}
 use Rattle.table.specs.Ends.{bonds_alone}
@@ -11,7 +9,4 @@ use Rattle.table.specs.Rows.{Rowed}
 use Rattle.table.proofs.refusal.fill_rows.Given as goal
 
 abbrev pub invariant-loop-k : goal.invariant-loop-k
-invariant-loop-k l = (l.k ≤ length l.bonds / 2) × Rowed l.bonds l.k l.rows × (some? l.k (seen_before? (bonds_alone l.bonds)) ≡ false)
-
-abbrev pub decreases-loop-k : goal.decreases-loop-k
-decreases-loop-k l = length l.bonds / 2 - l.k
+invariant-loop-k l = Rowed l.bonds l.k l.rows × (some? l.k (seen_before? (bonds_alone l.bonds)) ≡ false)

@@ -1,7 +1,5 @@
 -- Before each turn it is told of the bonds tried so far whether one is wrong. Assumes nothing.
 use mathlib.Core.Path.{◌≡◌}
-use Prim.Native.Nat.{◌≤◌, ◌/◌, ◌-◌}
-use lib.ListN.{length}
 use Rattle.definitions.specs.Search.{some?}
 use Rattle.definitions.specs.Table.{table, bad_end?, self_bond?}
 use Rattle.table.specs.Ends.{bonds_alone}
@@ -9,7 +7,4 @@ use Rattle.table.proofs.refusal.wrong_ends.Given as goal
 
 abbrev pub invariant-loop-k : goal.invariant-loop-k
 invariant-loop-k l =
-    (l.k ≤ length l.bonds / 2) × (l.outside ≡ some? l.k (bad_end? (table l.atoms l.bonds))) × (l.same ≡ some? l.k (self_bond? (bonds_alone l.bonds)))
-
-abbrev pub decreases-loop-k : goal.decreases-loop-k
-decreases-loop-k l = length l.bonds / 2 - l.k
+    (l.outside ≡ some? l.k (bad_end? (table l.atoms l.bonds))) × (l.same ≡ some? l.k (self_bond? (bonds_alone l.bonds)))

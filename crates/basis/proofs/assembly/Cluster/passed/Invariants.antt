@@ -1,14 +1,8 @@
--- Before each turn the rings left below i share no bond with the cluster, or the pass has added a ring. Assumes nothing.
-use Prim.Native.Nat.{◌-◌}
-use lib.ListN.{take}
+-- Before each turn the rings taken so far share no bond with the cluster, or the pass has added a ring. Assumes nothing.
 use Rattle.sets.specs.Lists.{sets_in}
-use Rattle.definitions.specs.Table.{max_bonds}
 use Rattle.basis.specs.Clusters.{group_of}
 use Rattle.basis.proofs.Grouping.{Passing}
 use Rattle.basis.proofs.assembly.Cluster.passed.Given as goal
 
 abbrev pub invariant-loop-i : goal.invariant-loop-i
-invariant-loop-i l = Passing (take l.count (sets_in l.rings)) (group_of l.initial.cluster) (group_of l.cluster) l.i
-
-abbrev pub decreases-loop-i : goal.decreases-loop-i
-decreases-loop-i l = max_bonds - l.i
+invariant-loop-i l = Passing (sets_in l.rings) (group_of l.fn.self) (group_of l.cluster) l.yielded

@@ -1,0 +1,2 @@
+-- What a field holds, as a byte.
+pub mod Tags
