@@ -25,12 +25,12 @@ use Rattle.definitions.proofs.Tests.{by, clashes, and_both}
 use Rattle.definitions.proofs.Lists.{has-set_of, size-set_of, listed_ext, gather_ext, get_or-map}
 use Rattle.definitions.proofs.Passing.{listed_gap}
 use Rattle.definitions.proofs.Linking.{number, length-assemblies, length-rings_in}
-use Rattle.std.proofs.Common.{Result, Ok, Err, IfOk}
+use Rattle.std.proofs.Common.{Result, Ok, Err, IfOk, length-take}
 use Rattle.answers.specs.Told.{code_of}
 use Rattle.answers.specs.declared.refusal.Refusal.{Refusal}
-use Rattle.basis.specs.Held.{rings_of, Holds, BasisOf, Assemblies, members_of, AssembliesOf}
+use Rattle.basis.specs.Held.{rings_of, Holds, BasisOf, members_of, held_sets, held_count, AssembliesOf}
+use Rattle.basis.specs.declared.found.Assemblies.{Assemblies}
 use Rattle.basis.specs.declared.basis.Basis.{Basis}
-use Rattle.arrayvec.specs.ArrayVec.{array_vec_len}
 
 -- ---- a Basis
 
@@ -74,12 +74,16 @@ basis-same {M = M} {p = Err d} {q = q} h k = (h.number ∙ sym k.number, tt)
 pub members-at : (sets : List RingSet) (a : ℕ) → get_or (map bits sets) a 0 ≡ bits (get_or sets a no_rings)
 members-at sets a = get_or-map bits sets a no_rings 0 no_rings_lem
 
+-- there are as many as the count says
+pub count-held : (s : Assemblies) → s.count ≡ held_count s
+count-held s = omega (arith, length-take s.count s.members, s.within)
+
 -- there is a set for each
-pub members-length : (s : Assemblies) → length (members_of s) ≡ array_vec_len s
-members-length s = length-map s.items bits
+pub members-length : (s : Assemblies) → length (members_of s) ≡ held_count s
+members-length s = length-map (held_sets s) bits
 
 -- and none after them
-members-past : (s : Assemblies) (a : ℕ) → array_vec_len s ≤ a → get_or (members_of s) a 0 ≡ 0
+members-past : (s : Assemblies) (a : ℕ) → held_count s ≤ a → get_or (members_of s) a 0 ≡ 0
 members-past s a l = get_or_past (members_of s) a 0 (omega (arith, members-length s))
 
 -- a loop over the sets has passed n of them, and the rest are left
@@ -114,18 +118,18 @@ left_none {all} {rest} {n} left none = omega (arith, length-drop n all, ap lengt
 
 module _ {rs : List ℕ} {s : Assemblies} (h : AssembliesOf rs s) where
   -- the set of assembly a has the rings whose assembly is a
-  pub members-has : (a i : ℕ) → a < array_vec_len s → has (get_or (members_of s) a 0) i ≡ ltb i (length rs) && eqb (number rs i) a
+  pub members-has : (a i : ℕ) → a < held_count s → has (get_or (members_of s) a 0) i ≡ ltb i (length rs) && eqb (number rs i) a
   members-has a i l = ap (λ (t : ℕ). has t i) (h.members a l) ∙ has-set_of (length rs) (λ j. eqb (number rs j) a) i
 
   -- so each of its rings is one of the list
   pub members_below : (a i : ℕ) → has (get_or (members_of s) a 0) i ≡ true → i < length rs
   members_below a i e =
-      by (ltb a (array_vec_len s))
-      (λ t. ltb-true i (length rs) (and_both (ltb i (length rs)) (eqb (number rs i) a) (sym (members-has a i (ltb-true a (array_vec_len s) t)) ∙ e)).0)
-      (λ t. clashes e (ap (λ (m : ℕ). has m i) (members-past s a (ltb-false a (array_vec_len s) t)) ∙ has-zero i))
+      by (ltb a (held_count s))
+      (λ t. ltb-true i (length rs) (and_both (ltb i (length rs)) (eqb (number rs i) a) (sym (members-has a i (ltb-true a (held_count s) t)) ∙ e)).0)
+      (λ t. clashes e (ap (λ (m : ℕ). has m i) (members-past s a (ltb-false a (held_count s) t)) ∙ has-zero i))
 
   -- it has as many rings as the assembly
-  pub members-size : (a : ℕ) → a < array_vec_len s → size (get_or (members_of s) a 0) ≡ length (rings_in rs a)
+  pub members-size : (a : ℕ) → a < held_count s → size (get_or (members_of s) a 0) ≡ length (rings_in rs a)
   members-size a l = ap size (h.members a l) ∙ size-set_of (length rs) (λ i. eqb (number rs i) a) ∙ sym (length-rings_in rs a)
 
 -- two hold the same sets in order, so as many
@@ -136,13 +140,13 @@ SameAssemblies s t = members_of s ≡ members_of t
 pub assemblies-same : {rs : List ℕ} {s t : Assemblies} → AssembliesOf rs s → AssembliesOf rs t → SameAssemblies s t
 assemblies-same {s = s} {t} h k =
     ext_get_or 0 (members_of s) (members_of t) (members-length s ∙ h.count ∙ sym (members-length t ∙ k.count))
-    (λ a l. let at : a < array_vec_len s = omega (arith, members-length s) in h.members a at ∙ sym (k.members a (omega (arith, h.count, k.count))))
+    (λ a l. let at : a < held_count s = omega (arith, members-length s) in h.members a at ∙ sym (k.members a (omega (arith, h.count, k.count))))
 
 -- ---- both
 
 module _ {M : Table} {b : Basis} {s : Assemblies} (h : Holds M b) (p : AssembliesOf (basis_rings M) s) where
   -- the basis rings of an assembly stand at the places that its set names
-  pub picked-rings : (a : ℕ) → a < array_vec_len s → picked (sets_in b.rings) (get_or (members_of s) a 0) ≡ rings_in (basis_rings M) a
+  pub picked-rings : (a : ℕ) → a < held_count s → picked (sets_in b.rings) (get_or (members_of s) a 0) ≡ rings_in (basis_rings M) a
   unfolding rings_in
   picked-rings a l =
       listed_gap (has set) ring n room (omega (arith, h.count, h.counted)) (λ k m j. members-has p a k l ∙ ap (λ (t : Bool). t && q k) (le-ltb k n m))
@@ -163,7 +167,7 @@ module _ {M : Table} {b : Basis} {s : Assemblies} (h : Holds M b) (p : Assemblie
 
   -- so what is made of them, one assembly after another, is made of the assemblies of the table
   pub picked_all : {A : Type 0} (f : List ℕ → List A)
-      → gather (array_vec_len s) (λ a. f (picked (sets_in b.rings) (get_or (members_of s) a 0))) ≡ gather (assembly_count (basis_rings M)) (λ a. f (rings_in (basis_rings M) a))
+      → gather (held_count s) (λ a. f (picked (sets_in b.rings) (get_or (members_of s) a 0))) ≡ gather (assembly_count (basis_rings M)) (λ a. f (rings_in (basis_rings M) a))
   picked_all f =
-      gather_ext (array_vec_len s) _ (λ a. f (rings_in (basis_rings M) a)) (λ a l. ap f (picked-rings a l))
+      gather_ext (held_count s) _ (λ a. f (rings_in (basis_rings M) a)) (λ a l. ap f (picked-rings a l))
       ∙ ap (λ (n : ℕ). gather n (λ a. f (rings_in (basis_rings M) a))) p.count

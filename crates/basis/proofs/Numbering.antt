@@ -2,7 +2,7 @@
 -- the assembly of that number; where no ring is left all assemblies are found. Assumes nothing.
 use mathlib.Core.Path.{◌≡◌, refl, sym, ap, ap₂, ◌∙◌}
 use mathlib.Core.Bool.{Bool, true, false, ◌&&◌, not, and-true}
-use mathlib.Core.List.{List, [], ◌∷◌, ◌++◌}
+use mathlib.Core.List.{List, [], ◌∷◌, ◌++◌, map}
 use Prim.Native.Nat.{ℕ, ◌+◌, ◌≤◌, ◌<◌, min}
 use native.Mathlib.Omega.{arith}
 use borrow.Author.Tests.{eqb-true, eqb-false, eq-eqb, ltb-true, lt-ltb, leb-true, leb-false, le-leb, ne_eqb, not-true}
@@ -22,7 +22,8 @@ use Rattle.definitions.specs.Assembly.Linked.{same, by as shares}
 use Rattle.definitions.proofs.Tests.{by, clashes, and_both, both_and, not_passed, not_failed, same_test}
 use Rattle.definitions.proofs.Lists.{has-set_of, count-le}
 use Rattle.definitions.proofs.Linking.{number, first?, assembly_count_lem, number_below, number_next, number_all, linked_test, linked_trans, linked_closed}
-use Rattle.basis.specs.Held.{AssembliesOf}
+use Rattle.basis.specs.Held.{held_sets, AssembliesOf}
+use Rattle.basis.specs.declared.found.Assemblies.{Assemblies}
 use Rattle.basis.specs.Clusters.{Group, Grouped, Apart}
 use Rattle.basis.proofs.Taken.{none_below}
 use Rattle.basis.proofs.Holding.{members-at}
@@ -75,10 +76,14 @@ module _ {rs : List ℕ} {sets : List RingSet} {left : ℕ} (d : Divided rs sets
   left_below i h = (left-number i h).0
 
   -- where no ring is left all assemblies are found
-  pub divided_all : [] ≡ rising room left → AssembliesOf rs (record { items = sets })
-  divided_all none =
+  pub divided_all : {s : Assemblies} → held_sets s ≡ sets → [] ≡ rising room left → AssembliesOf rs s
+  divided_all held none =
       let e = number_all rs n d.low (λ j l. used j l (none_below room left none j (omega (arith, d.few)))) in
-      record { count = e; counted = omega (arith, assembly_count_lem rs, count-le (first? rs) (length rs)); members = λ a l. members-at sets a ∙ d.found a l }
+      record {
+        count = ap length held ∙ e;
+        counted = omega (arith, ap length held, e, assembly_count_lem rs, count-le (first? rs) (length rs));
+        members = λ a l. ap (λ xs. get_or (map bits xs) a 0) held ∙ members-at sets a ∙ d.found a (omega (arith, ap length held));
+      }
 
   module _ {first : ℕ} (next : Turn room left [] first) where
     -- the first ring left has the next number

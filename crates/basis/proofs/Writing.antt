@@ -23,9 +23,9 @@ use Rattle.definitions.proofs.Tests.{by, clashes}
 use Rattle.definitions.proofs.Lists.{in_snoc, in_last}
 use Rattle.definitions.proofs.Linking.{number, length-assemblies, number_below}
 use Rattle.lent.proofs.Appending.{over-length}
-use Rattle.basis.specs.Held.{rings_of, Holds, Assemblies, members_of, AssembliesOf}
+use Rattle.basis.specs.Held.{rings_of, Holds, members_of, held_sets, held_count, AssembliesOf}
+use Rattle.basis.specs.declared.found.Assemblies.{Assemblies}
 use Rattle.basis.specs.Clusters.{Numbered}
-use Rattle.arrayvec.specs.ArrayVec.{array_vec_len}
 use Rattle.basis.specs.declared.basis.Basis.{Basis}
 use Rattle.basis.proofs.Taken.{in_rising}
 use Rattle.basis.proofs.Holding.{held_assemblies, members-at, members-has, members_below}
@@ -73,17 +73,17 @@ turn true x a y =
     (by (ltb x a) (λ u. rw (u, lt-ltb x (a + 1) (omega (arith, ltb-true x a u)))) (λ u. rw (u, le-ltb x (a + 1) (omega (arith, ltb-false x a u))))))
 
 -- the rings of the next assembly have its number
-pub assigned_more : {rs : List ℕ} {s : Assemblies} {a : ℕ} {l out new : List ℕ} → AssembliesOf rs s → a < array_vec_len s → Assigned rs a l out
-    → Numbered (has (bits (get_or s.items a no_rings))) (λ j. a) out new → Assigned rs (a + 1) l new
+pub assigned_more : {rs : List ℕ} {s : Assemblies} {a : ℕ} {l out new : List ℕ} → AssembliesOf rs s → a < held_count s → Assigned rs a l out
+    → Numbered (has (bits (get_or (held_sets s) a no_rings))) (λ j. a) out new → Assigned rs (a + 1) l new
 assigned_more {rs} {s} {a} {l} {out} o h q w = record {
   long = w.long ∙ q.long;
   at = λ j.
-      w.at j ∙ rw (ap (λ (t : ℕ). has t j) (sym (members-at s.items a)) ∙ members-has o a j h, q.at j)
+      w.at j ∙ rw (ap (λ (t : ℕ). has t j) (sym (members-at (held_sets s) a)) ∙ members-has o a j h, q.at j)
       (turn (ltb j (length rs)) (number rs j) a (get_or l j 0));
 }
 
 -- after the last assembly each ring has its number
-pub assigned_all : {rs : List ℕ} {s : Assemblies} {a : ℕ} {l out : List ℕ} → AssembliesOf rs s → length rs ≤ length l → array_vec_len s ≤ a → Assigned rs a l out → out ≡ over (assemblies_of rs) l
+pub assigned_all : {rs : List ℕ} {s : Assemblies} {a : ℕ} {l out : List ℕ} → AssembliesOf rs s → length rs ≤ length l → held_count s ≤ a → Assigned rs a l out → out ≡ over (assemblies_of rs) l
 unfolding over
 assigned_all {rs} {s} {a} {l} {out} o room h q =
     ext_get_or 0 out (over (assemblies_of rs) l) (q.long ∙ sym (over-length (assemblies_of rs) l (omega (arith, long))))

@@ -10,7 +10,7 @@ use Rattle.answers.specs.Told.{code_of}
 use Rattle.answers.specs.declared.refusal.Refusal.{Refusal}
 use Rattle.basis.specs.declared.basis.Basis.{Basis}
 use Rattle.sets.specs.declared.ring.RingSet.{RingSet}
-use Rattle.arrayvec.specs.ArrayVec.{ArrayVec, array_vec_len}
+use Rattle.basis.specs.declared.found.Assemblies.{Assemblies}
 
 -- the sets that a Basis holds, in order
 abbrev pub rings_of : Basis → List ℕ
@@ -28,16 +28,20 @@ pub record BasisOf (M : Table) (r : Result Basis Refusal) : Type 0 where
   pub number : code_of r ≡ refusal M
   pub rings : IfOk r (Holds M)
 
--- the assemblies in order, each as the set of its basis rings
-abbrev pub Assemblies : Type 0
-Assemblies = ArrayVec RingSet
+-- the sets that Assemblies hold, in order
+abbrev pub held_sets : Assemblies → List RingSet
+held_sets s = take s.count s.members
+
+-- how many there are
+abbrev pub held_count : Assemblies → ℕ
+held_count s = length (held_sets s)
 
 -- these sets as numbers
 abbrev pub members_of : Assemblies → List ℕ
-members_of s = map bits s.items
+members_of s = map bits (held_sets s)
 
 -- s holds the assemblies of a list of basis rings
 pub record AssembliesOf (rs : List ℕ) (s : Assemblies) : Type 0 where
-  pub count : array_vec_len s ≡ assembly_count rs
-  pub counted : array_vec_len s ≤ max_bonds
-  pub members : (a : ℕ) → a < array_vec_len s → get_or (members_of s) a 0 ≡ set_of (length rs) (λ i. eqb (get_or (assemblies_of rs) i 0) a)
+  pub count : held_count s ≡ assembly_count rs
+  pub counted : held_count s ≤ max_bonds
+  pub members : (a : ℕ) → a < held_count s → get_or (members_of s) a 0 ≡ set_of (length rs) (λ i. eqb (get_or (assemblies_of rs) i 0) a)

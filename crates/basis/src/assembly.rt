@@ -10,13 +10,10 @@ ghost use Rattle.definitions.specs.Answer.{over};
 ghost use Rattle.basis.specs.Held.{members_of, AssembliesOf};
 ghost use Rattle.basis.specs.Clusters.{group_of, joined_by, Grouped, Apart, Pass, Numbered};
 
-use answers::{BASIS_WORDS, MAX_BONDS};
-use arrayvec::ArrayVec;
+use super::found::Assemblies;
+use answers::BASIS_WORDS;
 use sets::list::{sets_in, sets_up_to};
 use sets::{BondSet, RingSet, WORDS, WordSet};
-
-// The assemblies in order, each as the set of its basis rings.
-pub type Assemblies = ArrayVec<RingSet, MAX_BONDS>;
 
 // An assembly that grows: its basis rings, their bonds, and the rings that are left.
 #[derive(Clone, Copy)]

@@ -4,6 +4,7 @@
 mod assembly;
 mod basis;
 mod climb;
+mod found;
 
 ghost use Rattle.std.specs.Prelude.{◌≡◌, [], length};
 ghost use Rattle.definitions.specs.Table.{table, refusal};
@@ -13,9 +14,10 @@ ghost use Rattle.definitions.specs.Answer.{counted, written, written_sets};
 ghost use Rattle.answers.specs.Told.{told};
 
 use answers::{Refusal, write_sets};
+pub use assembly::assemblies_of;
 use assembly::write_assemblies;
-pub use assembly::{Assemblies, assemblies_of};
 pub use basis::{Basis, basis_of};
+pub use found::Assemblies;
 
 // The table check: the number of basis rings.
 pub fn check(atoms: u64, bonds: &[u8]) -> Result<usize, Refusal>

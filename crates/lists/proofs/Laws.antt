@@ -17,8 +17,7 @@ use Rattle.definitions.proofs.Sorting.{sort_in}
 use Rattle.lent.specs.Appended.{Appended}
 use Rattle.lent.proofs.Between.{appended_take}
 use Rattle.answers.proofs.Answers.{sets-accepted}
-use Rattle.arrayvec.specs.ArrayVec.{array_vec_len}
-use Rattle.basis.specs.Held.{members_of}
+use Rattle.basis.specs.Held.{members_of, held_count}
 use Rattle.combining.specs.Gibbs.{found_at, found_in}
 use Rattle.choosing.specs.Elimination.{Spanned}
 use Rattle.perception.specs.Perceiving.{Perceives}
@@ -59,7 +58,7 @@ spanned_sorted {n} {rings} spanned = (spanned.0, spanned.1, λ x i. spanned.2 x 
 
 module _ {M : Table} {p : Perceived} (seen : Perceives M (Ok p)) where
   -- the longest lists have room for its rings, and so have shorter ones that hold more sets than its assemblies have sums
-  pub perceived_workable : Workable (members_of p.assemblies) (array_vec_len p.assemblies) p.sums
+  pub perceived_workable : Workable (members_of p.assemblies) (held_count p.assemblies) p.sums
   perceived_workable =
       let small = perceived_small seen in
       record {
@@ -69,13 +68,13 @@ module _ {M : Table} {p : Perceived} (seen : Perceives M (Ok p)) where
 
   -- an answer that holds what is found of it in order holds all rings
   pub perceived_all : (lent : List ℕ) {o : Outcome (List ℕ)}
-      → o ≡ written_sets 0 (sort before (found_in (sets_in p.basis.rings) (members_of p.assemblies) (array_vec_len p.assemblies))) lent
+      → o ≡ written_sets 0 (sort before (found_in (sets_in p.basis.rings) (members_of p.assemblies) (held_count p.assemblies))) lent
       → o ≡ written_sets (refusal_of_rings M) (all_rings M) lent
   perceived_all lent h = sets-accepted (all_rings M) lent seen.number (perceived_found seen) h
 
   -- one that holds what is taken of that holds the smallest basis
   pub perceived_smallest : (lent : List ℕ) {o : Outcome (List ℕ)}
-      → o ≡ written_sets 0 (taking [] (sort before (found_in (sets_in p.basis.rings) (members_of p.assemblies) (array_vec_len p.assemblies)))) lent
+      → o ≡ written_sets 0 (taking [] (sort before (found_in (sets_in p.basis.rings) (members_of p.assemblies) (held_count p.assemblies)))) lent
       → o ≡ written_sets (refusal_of_rings M) (smallest_basis M) lent
   unfolding smallest_basis
   perceived_smallest lent h = sets-accepted (smallest_basis M) lent seen.number (ap (taking []) (perceived_found seen)) h

@@ -4,14 +4,14 @@ use Rattle.sets.specs.Bits.{size}
 use Rattle.definitions.specs.Search.{sort}
 use Rattle.definitions.specs.Table.{max_bonds}
 use Rattle.definitions.specs.AllRings.{before}
-use Rattle.arrayvec.specs.ArrayVec.{array_vec_len}
-use Rattle.basis.specs.Held.{Assemblies, members_of}
+use Rattle.basis.specs.Held.{members_of, held_count}
+use Rattle.basis.specs.declared.found.Assemblies.{Assemblies}
 use Rattle.combining.specs.Gibbs.{found_in}
 use Rattle.perception.specs.Perceiving.{sums_in}
 
 -- what the combination finds in assemblies of these basis rings, one assembly after another
 abbrev pub rings_found : List ℕ → Assemblies → List ℕ
-rings_found rings assemblies = found_in rings (members_of assemblies) (array_vec_len assemblies)
+rings_found rings assemblies = found_in rings (members_of assemblies) (held_count assemblies)
 
 -- a list of m sets has room for what the combination finds in the first n assemblies, and for the sums of each
 pub record Listable (members : List ℕ) (n m : ℕ) : Type 0 where

@@ -14,8 +14,7 @@ ghost use Rattle.definitions.specs.AllRings.{before, all_rings};
 ghost use Rattle.definitions.specs.Smallest.{smallest_basis};
 ghost use Rattle.definitions.specs.Answer.{written_sets, refusal_of_rings};
 ghost use Rattle.answers.specs.Told.{told};
-ghost use Rattle.arrayvec.specs.ArrayVec.{array_vec_len};
-ghost use Rattle.basis.specs.Held.{members_of};
+ghost use Rattle.basis.specs.Held.{members_of, held_count};
 ghost use Rattle.lists.specs.Listed.{rings_found, Listable, Workable};
 
 use answers::Refusal;
@@ -33,7 +32,7 @@ fn write_in<W: Wanted, const LONG: usize>(
     seen: &Perceived,
     out: &mut [u64],
 ) -> Result<usize, Refusal>
-    requires { (LONG < 2 ^ 60) × W.can_choose wanted (sort before (rings_found (sets_in seen.now.basis.rings) seen.now.assemblies)) × Listable (members_of seen.now.assemblies) (array_vec_len seen.now.assemblies) (LONG / words) }
+    requires { (LONG < 2 ^ 60) × W.can_choose wanted (sort before (rings_found (sets_in seen.now.basis.rings) seen.now.assemblies)) × Listable (members_of seen.now.assemblies) (held_count seen.now.assemblies) (LONG / words) }
     ensures { told result out.new ≡ written_sets 0 (W.chosen wanted (sort before (rings_found (sets_in seen.now.basis.rings) seen.now.assemblies))) out.old }
 {
     let mut found = [0u64; LONG];
@@ -49,7 +48,7 @@ fn write_in<W: Wanted, const LONG: usize>(
 
 // Writes it, worked out in the shortest lists that have room for the sums.
 fn write_wanted<W: Wanted>(wanted: W, seen: &Perceived, out: &mut [u64]) -> Result<usize, Refusal>
-    requires { W.can_choose wanted (sort before (rings_found (sets_in seen.now.basis.rings) seen.now.assemblies)) × Workable (members_of seen.now.assemblies) (array_vec_len seen.now.assemblies) seen.now.sums }
+    requires { W.can_choose wanted (sort before (rings_found (sets_in seen.now.basis.rings) seen.now.assemblies)) × Workable (members_of seen.now.assemblies) (held_count seen.now.assemblies) seen.now.sums }
     ensures { told result out.new ≡ written_sets 0 (W.chosen wanted (sort before (rings_found (sets_in seen.now.basis.rings) seen.now.assemblies))) out.old }
 {
     if seen.sums < FEW {

@@ -1,8 +1,7 @@
 // The list of all rings: those of one assembly after another, then put in order.
 ghost use Rattle.std.specs.Prelude.{length};
 ghost use Rattle.sets.specs.Lists.{sets_in};
-ghost use Rattle.arrayvec.specs.ArrayVec.{array_vec_len};
-ghost use Rattle.basis.specs.Held.{members_of};
+ghost use Rattle.basis.specs.Held.{members_of, held_count};
 ghost use Rattle.lists.specs.Listed.{rings_found, Listable, Ordered};
 
 use answers::BASIS_WORDS;
@@ -19,7 +18,7 @@ pub(crate) fn list_rings(
     found: &mut [u64],
     ordered: &mut [u64],
 ) -> usize
-    requires { Listable (members_of assemblies.now) (array_vec_len assemblies.now) (length (sets_in found.old)) × Listable (members_of assemblies.now) (array_vec_len assemblies.now) (length (sets_in ordered.old)) }
+    requires { Listable (members_of assemblies.now) (held_count assemblies.now) (length (sets_in found.old)) × Listable (members_of assemblies.now) (held_count assemblies.now) (length (sets_in ordered.old)) }
     ensures { Ordered (rings_found (sets_in rings.now) assemblies.now) (sets_in ordered.new) result }
 {
     let mut count: usize = 0;

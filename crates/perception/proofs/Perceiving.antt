@@ -36,9 +36,9 @@ use Rattle.answers.specs.Told.{number_of, code_of}
 use Rattle.answers.specs.declared.refusal.Refusal.{Refusal}
 use Rattle.answers.specs.declared.refusal.Refusal.TheVariants.{Tangled}
 use Rattle.answers.proofs.Answers.{number-some}
-use Rattle.basis.specs.Held.{rings_of, BasisOf, Assemblies, members_of, AssembliesOf}
+use Rattle.basis.specs.declared.found.Assemblies.{Assemblies}
 use Rattle.basis.specs.declared.basis.Basis.{Basis}
-use Rattle.arrayvec.specs.ArrayVec.{array_vec_len}
+use Rattle.basis.specs.Held.{rings_of, BasisOf, members_of, held_count, AssembliesOf}
 use Rattle.basis.proofs.Holding.{SameRings, SameAssemblies, holds_same, assemblies-same, held_assemblies, members-length, members-size, picked_all}
 use Rattle.combining.specs.Gibbs.{combined, found_at, found_in}
 use Rattle.combining.proofs.Turns.{found-few}
@@ -64,10 +64,10 @@ tells_too_many : (members : List ℕ) (n : ℕ)
 tells_too_many members n = tells_some (λ a. tells_ltb _ _) n
 
 -- the test of the assemblies is that of the table
-tangled_test : (M : Table) {s : Assemblies} → AssembliesOf (basis_rings M) s → tangled_in (members_of s) (array_vec_len s) ≡ tangled? M
+tangled_test : (M : Table) {s : Assemblies} → AssembliesOf (basis_rings M) s → tangled_in (members_of s) (held_count s) ≡ tangled? M
 unfolding tangled?
 tangled_test M {s} h =
-    some_ext (array_vec_len s) _ (λ a. ltb max_assembly (length (rings_in (basis_rings M) a))) (λ a l. ap (ltb max_assembly) (members-size h a l))
+    some_ext (held_count s) _ (λ a. ltb max_assembly (length (rings_in (basis_rings M) a))) (λ a l. ap (ltb max_assembly) (members-size h a l))
     ∙ ap (λ (n : ℕ). some? n (λ a. ltb max_assembly (length (rings_in (basis_rings M) a)))) h.count
 
 -- ---- how many sums the assemblies have
@@ -165,15 +165,15 @@ perceives_refused {M} r e basis same =
 module _ {M : Table} {b : Basis} {s : Assemblies} (basis : BasisOf M (Ok b)) (h : AssembliesOf (rings_of b) s)
   where
     -- the assemblies alone decide
-    decided : {c : Bool} → tangled_in (members_of s) (array_vec_len s) ≡ c → refusal_of_rings M ≡ cond c TANGLED 0
+    decided : {c : Bool} → tangled_in (members_of s) (held_count s) ≡ c → refusal_of_rings M ≡ cond c TANGLED 0
     decided e = rings-free M (sym basis.number) ∙ ap (λ c. cond c TANGLED 0) (sym (tangled_test M (held_assemblies basis.rings h)) ∙ e)
 
     -- an assembly has too many basis rings
-    pub perceives_tangled : tangled_in (members_of s) (array_vec_len s) ≡ true → Perceives M (Err Tangled)
+    pub perceives_tangled : tangled_in (members_of s) (held_count s) ≡ true → Perceives M (Err Tangled)
     perceives_tangled q = record { number = sym (decided q); worked = tt }
 
     -- none has
-    pub perceives_all : {n : ℕ} → tangled_in (members_of s) (array_vec_len s) ≡ false → n ≡ sums_in (members_of s) (array_vec_len s) → Perceives M (Ok (record { basis = b; assemblies = s; sums = n }))
+    pub perceives_all : {n : ℕ} → tangled_in (members_of s) (held_count s) ≡ false → n ≡ sums_in (members_of s) (held_count s) → Perceives M (Ok (record { basis = b; assemblies = s; sums = n }))
     perceives_all q e = record {
       number = sym (decided q);
       worked = record { basis = basis.rings; assemblies = held_assemblies basis.rings h; sums = e };
@@ -188,7 +188,7 @@ pub record Same (p q : Perceived) : Type 0 where
   pub sums : p.sums ≡ q.sums
 
 -- as many assemblies with the same sets have as many sums
-sums_same : (s t : Assemblies) → SameAssemblies s t → sums_in (members_of s) (array_vec_len s) ≡ sums_in (members_of t) (array_vec_len t)
+sums_same : (s t : Assemblies) → SameAssemblies s t → sums_in (members_of s) (held_count s) ≡ sums_in (members_of t) (held_count t)
 sums_same s t same = ap₂ sums_in same (sym (members-length s) ∙ ap length same ∙ members-length t)
 
 -- what two calls work out of one table differs in nothing
@@ -224,15 +224,15 @@ module _ {M : Table} {p : Perceived} (seen : Perceives M (Ok p)) where
   perceived_valid = (accepted M).0 ((rings-accepted M).0 unrefused).0
 
   -- the assemblies are small
-  pub perceived_small : Small (members_of p.assemblies) (array_vec_len p.assemblies)
+  pub perceived_small : Small (members_of p.assemblies) (held_count p.assemblies)
   perceived_small = record {
     counted = perceived.assemblies.counted;
-    small = (tells_too_many (members_of p.assemblies) (array_vec_len p.assemblies)).no_says (tangled_test M perceived.assemblies ∙ ((rings-accepted M).0 unrefused).1);
+    small = (tells_too_many (members_of p.assemblies) (held_count p.assemblies)).no_says (tangled_test M perceived.assemblies ∙ ((rings-accepted M).0 unrefused).1);
   }
 
   -- what the combination finds in them
   abbrev found : List ℕ
-  found = found_in (sets_in p.basis.rings) (members_of p.assemblies) (array_vec_len p.assemblies)
+  found = found_in (sets_in p.basis.rings) (members_of p.assemblies) (held_count p.assemblies)
 
   -- it finds in those of the basis rings of the table
   found_all : found ≡ all_combined (basis_rings M)
@@ -240,11 +240,11 @@ module _ {M : Table} {p : Perceived} (seen : Perceives M (Ok p)) where
   found_all = picked_all perceived.basis perceived.assemblies combined
 
   -- in order it is all rings
-  pub perceived_found : sort before (found_in (sets_in p.basis.rings) (members_of p.assemblies) (array_vec_len p.assemblies)) ≡ all_rings M
+  pub perceived_found : sort before (found_in (sets_in p.basis.rings) (members_of p.assemblies) (held_count p.assemblies)) ≡ all_rings M
   perceived_found = ap (sort before) found_all ∙ all_combined_lem perceived_valid
 
   -- each of it is a sum of the basis rings
-  pub perceived_spanned : Spanned p.basis.count (found_in (sets_in p.basis.rings) (members_of p.assemblies) (array_vec_len p.assemblies))
+  pub perceived_spanned : Spanned p.basis.count (found_in (sets_in p.basis.rings) (members_of p.assemblies) (held_count p.assemblies))
   perceived_spanned = (
     basis_rings M,
     sym perceived.basis.count,
@@ -252,17 +252,17 @@ module _ {M : Table} {p : Perceived} (seen : Perceives M (Ok p)) where
   )
 
   -- a list that is longer than they have sums which are not empty has room for the sums of each
-  pub perceived_room : {n : ℕ} → p.sums < n → (a : ℕ) → a < array_vec_len p.assemblies → 2 ^ size (get_or (members_of p.assemblies) a 0) ≤ n
+  pub perceived_room : {n : ℕ} → p.sums < n → (a : ℕ) → a < held_count p.assemblies → 2 ^ size (get_or (members_of p.assemblies) a 0) ≤ n
   perceived_room h a l =
       let members = members_of p.assemblies in
-      omega (arith, perceived.sums, sums_next members a, sums_mono members (a + 1) (array_vec_len p.assemblies) (omega arith))
+      omega (arith, perceived.sums, sums_next members a, sums_mono members (a + 1) (held_count p.assemblies) (omega arith))
 
   -- they have no more sums than those of any table
-  pub perceived_most : sums_in (members_of p.assemblies) (array_vec_len p.assemblies) ≤ most_rings
+  pub perceived_most : sums_in (members_of p.assemblies) (held_count p.assemblies) ≤ most_rings
   perceived_most =
       omega (
         arith,
-        total_share max_assembly (2 ^ max_assembly - 1) (array_vec_len p.assemblies) (sums_at members) (λ a. size (get_or members a 0))
+        total_share max_assembly (2 ^ max_assembly - 1) (held_count p.assemblies) (sums_at members) (λ a. size (get_or members a 0))
             (λ a l. sums_share (size (get_or members a 0)) (perceived_small.small a l)),
         held,
         perceived.basis.count,
@@ -272,8 +272,8 @@ module _ {M : Table} {p : Perceived} (seen : Perceives M (Ok p)) where
       members : List ℕ
       members = members_of p.assemblies
 
-      held : total (listed (array_vec_len p.assemblies) (λ a. true) (λ a. size (get_or members a 0))) ≡ length (basis_rings M)
+      held : total (listed (held_count p.assemblies) (λ a. true) (λ a. size (get_or members a 0))) ≡ length (basis_rings M)
       held =
-          ap total (listed_ext (array_vec_len p.assemblies) (λ a. true) (λ a. true) (λ a. size (get_or members a 0)) (λ a. length (rings_in (basis_rings M) a)) (λ a l. refl) (λ a l t. members-size perceived.assemblies a l))
+          ap total (listed_ext (held_count p.assemblies) (λ a. true) (λ a. true) (λ a. size (get_or members a 0)) (λ a. length (rings_in (basis_rings M) a)) (λ a l. refl) (λ a l t. members-size perceived.assemblies a l))
           ∙ ap (λ n. total (listed n (λ a. true) (λ a. length (rings_in (basis_rings M) a)))) perceived.assemblies.count
           ∙ rings-total (basis_rings M)

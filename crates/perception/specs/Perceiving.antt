@@ -7,8 +7,7 @@ use Rattle.definitions.specs.Search.{listed, total}
 use Rattle.definitions.specs.Table.{Table}
 use Rattle.definitions.specs.Basis.{basis_rings}
 use Rattle.definitions.specs.Answer.{refusal_of_rings}
-use Rattle.arrayvec.specs.ArrayVec.{array_vec_len}
-use Rattle.basis.specs.Held.{Holds, members_of, AssembliesOf}
+use Rattle.basis.specs.Held.{Holds, members_of, held_count, AssembliesOf}
 use Rattle.perception.specs.declared.Perceived.{Perceived}
 
 -- how many sets the lists hold in which rings are worked out
@@ -26,7 +25,7 @@ sums_in members n = total (listed n (λ a. true) (λ a. 2 ^ size (get_or members
 pub record Accepted (M : Table) (p : Perceived) : Type 0 where
   pub basis : Holds M p.basis
   pub assemblies : AssembliesOf (basis_rings M) p.assemblies
-  pub sums : p.sums ≡ sums_in (members_of p.assemblies) (array_vec_len p.assemblies)
+  pub sums : p.sums ≡ sums_in (members_of p.assemblies) (held_count p.assemblies)
 
 -- r tells why the table is refused, or has what is worked out
 pub record Perceives (M : Table) (r : Result Perceived Refusal) : Type 0 where

@@ -22,7 +22,7 @@ pub const FEW_WORDS: usize = FEW * WORDS;
 pub const MANY_WORDS: usize = MANY * WORDS;
 
 // The basis rings and the assemblies of a table, and how many sums these have that are not empty: there are no more rings than that.
-#[derive(Drop)]
+#[derive(Clone, Copy)]
 pub struct Perceived {
     pub basis: Basis,
     pub assemblies: Assemblies,

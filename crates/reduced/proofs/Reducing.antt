@@ -14,8 +14,8 @@ use Rattle.definitions.specs.Answer.{over}
 use Rattle.definitions.specs.Reduced.{reduced, reduced_basis}
 use Rattle.definitions.proofs.Linking.{length_assembled}
 use Rattle.basis.specs.declared.basis.Basis.{Basis}
-use Rattle.arrayvec.specs.ArrayVec.{array_vec_len}
-use Rattle.basis.specs.Held.{rings_of, Assemblies, Holds, members_of, AssembliesOf}
+use Rattle.basis.specs.Held.{rings_of, Holds, members_of, held_count, AssembliesOf}
+use Rattle.basis.specs.declared.found.Assemblies.{Assemblies}
 use Rattle.basis.proofs.Holding.{held_assemblies, picked_all}
 use Rattle.reduced.specs.Picked.{picked_by}
 use Rattle.std.proofs.Common.{Ok}
@@ -31,20 +31,20 @@ reduced-counted M e = e ∙ sym (gather-reduced-length (assembly_count (basis_ri
 module _ {M : Table} {b : Basis} {s : Assemblies} (basis : Holds M b) (parts : AssembliesOf (rings_of b) s) where
   -- what is picked fits where there is a place for each bond
   pub picked_fits : (blank : List ℕ) → sets_in blank ≡ replicate max_bonds 0
-      → length (gather (array_vec_len s) (picked_by (sets_in b.rings) (members_of s))) ≤ length (sets_in blank)
+      → length (gather (held_count s) (picked_by (sets_in b.rings) (members_of s))) ≤ length (sets_in blank)
   picked_fits blank none =
       let places : length (sets_in blank) ≡ max_bonds = ap length none ∙ length-replicate {A = ℕ} max_bonds 0 in
       let all = ap length (picked_all basis (held_assemblies basis parts) (λ (l : List ℕ). l)) ∙ length_assembled (basis_rings M) in
       omega (arith, all, basis.count, basis.counted)
 
   -- each reduced, they are the reduced basis
-  picked-reduced : gather (array_vec_len s) (λ a. reduced (picked_by (sets_in b.rings) (members_of s) a)) ≡ reduced_basis M
+  picked-reduced : gather (held_count s) (λ a. reduced (picked_by (sets_in b.rings) (members_of s) a)) ≡ reduced_basis M
   unfolding reduced_basis
   picked-reduced = picked_all basis (held_assemblies basis parts) reduced
 
   -- an accepted table: the reduced basis is handed back
   pub reduces_accepted : 0 ≡ refusal M → (blank ws : List ℕ) → sets_in blank ≡ replicate max_bonds 0
-      → sets_in ws ≡ over (gather (array_vec_len s) (λ a. reduced (picked_by (sets_in b.rings) (members_of s) a))) (sets_in blank)
+      → sets_in ws ≡ over (gather (held_count s) (λ a. reduced (picked_by (sets_in b.rings) (members_of s) a))) (sets_in blank)
       → Reduces M (Ok (record { sets = ws; count = b.count }))
   reduces_accepted given blank ws none list = record { number = given; count = reduced-counted M basis.count; sets = list ∙ ap₂ over picked-reduced none }
 

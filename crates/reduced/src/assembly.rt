@@ -6,8 +6,7 @@ ghost use Rattle.definitions.specs.Search.{gather, picked};
 ghost use Rattle.definitions.specs.Table.{max_bonds};
 ghost use Rattle.definitions.specs.Answer.{over};
 ghost use Rattle.definitions.specs.Reduced as spec;
-ghost use Rattle.arrayvec.specs.ArrayVec.{array_vec_len};
-ghost use Rattle.basis.specs.Held.{members_of};
+ghost use Rattle.basis.specs.Held.{members_of, held_count};
 ghost use Rattle.reduced.specs.Picked.{picked_by};
 
 use super::sweep::sweep_until_still;
@@ -45,9 +44,9 @@ fn reduce_assembly(rings: &[u64; BASIS_WORDS], members: RingSet, out: &mut [u64]
 
 // The reduced sets of the assemblies, one assembly after another.
 pub(crate) fn reduce_all(rings: &[u64; BASIS_WORDS], found: &Assemblies, out: &mut [u64])
-    requires { length (gather (array_vec_len found.now) (picked_by (sets_in rings.now) (members_of found.now))) ≤ length (sets_in out.old) }
+    requires { length (gather (held_count found.now) (picked_by (sets_in rings.now) (members_of found.now))) ≤ length (sets_in out.old) }
     ensures long { length out.new ≡ length out.old }
-    ensures list { sets_in out.new ≡ over (gather (array_vec_len found.now) (λ a. spec.reduced (picked_by (sets_in rings.now) (members_of found.now) a))) (sets_in out.old) }
+    ensures list { sets_in out.new ≡ over (gather (held_count found.now) (λ a. spec.reduced (picked_by (sets_in rings.now) (members_of found.now) a))) (sets_in out.old) }
 {
     let mut at: usize = 0;
     for members in found {

@@ -12,6 +12,7 @@ use Rattle.sets.specs.Lists.{sets_in}
 use Rattle.sets.proofs.Lists.{sets-whole}
 use Rattle.sets.proofs.Upward.{Turn, turn_of, turns_done}
 use Rattle.definitions.specs.Table.{max_bonds}
+use Rattle.basis.specs.Held.{held_sets}
 use Rattle.basis.proofs.Numbering.{divided_none, divided_room, divided_more, divided_all}
 use Rattle.basis.proofs.assembly.assemblies_of.Goals as goal
 use Rattle.basis.proofs.assembly.assemblies_of.Goals.{In-Some}
@@ -21,7 +22,7 @@ turn : (c : In-Some) → Turn room (bits c.loop-first.left) [] c.in-Some.first
 turn c = turn_of _ _ _ _ _ [] c.into_iter.ensures.into_iter_gives refl c.next.ensures.steps c.in-Some.is
 
 -- its assembly has a place
-place : (c : In-Some) → length c.loop-first.found.items < room
+place : (c : In-Some) → length (held_sets c.loop-first.found) < room
 place c = divided_room c.loop-first.invariant (turn c)
 
 pub loop-first-init : goal.loop-first-init
@@ -33,7 +34,7 @@ pub cluster_of-cluster-requires-clause-first : goal.cluster_of-cluster-requires-
 cluster_of-cluster-requires-clause-first c = (turn (goal.at.cluster_of-cluster-requires-clause-first c).In-Some).member
 
 pub push-requires : goal.push-requires
-push-requires c = (omega arith, place (goal.at.push-requires c).In-Some)
+push-requires c = place (goal.at.push-requires c).In-Some
 
 pub loop-first-smaller : goal.loop-first-smaller
 loop-first-smaller c = omega (arith, place (goal.at.loop-first-smaller c).In-Some)
@@ -43,4 +44,4 @@ loop-first-preserved c = let found = c.cluster_of-cluster.ensures in
     rw c.push.ensures.items (divided_more c.loop-first.invariant (turn (goal.at.loop-first-preserved c).In-Some) found.grouped found.apart refl)
 
 pub returns : goal.returns
-returns c = rw c.first_sets-known.ensures at (divided_all c.loop-first.invariant (turns_done _ _ _ _ _ [] c.into_iter.ensures.into_iter_gives refl c.next.ensures.steps c.in_default.is))
+returns c = rw c.first_sets-known.ensures at (divided_all c.loop-first.invariant {s = c.loop-first.found} refl (turns_done _ _ _ _ _ [] c.into_iter.ensures.into_iter_gives refl c.next.ensures.steps c.in_default.is))

@@ -5,13 +5,14 @@ use native.Mathlib.Omega.{arith}
 use lib.ListN.{length, get_or}
 use Rattle.sets.specs.Bits.{has}
 use Rattle.sets.specs.Ring.{bits, no_rings}
+use Rattle.basis.specs.Held.{held_sets}
 use Rattle.basis.proofs.Holding.{members-at}
 use Rattle.basis.proofs.Writing.{assigned_more, assigned_all}
 use Rattle.basis.proofs.assembly.write_assemblies.Goals as goal
 
 pub number_members-requires : goal.number_members-requires
 number_members-requires c i e =
-    let at = members-at c.args.found.now.items c.loop-a.a ∙ ap (λ sets. bits (get_or sets c.loop-a.a no_rings)) (sym c.deref-members-items.ensures.0) in
+    let at = members-at (held_sets c.args.found.now) c.loop-a.a ∙ ap (λ sets. bits (get_or sets c.loop-a.a no_rings)) (sym c.deref-members-items.ensures.0) in
     omega (arith, c.requires c.loop-a.a i (ap (λ (s : ℕ). has s i) at ∙ e))
 
 pub loop-a-preserved : goal.loop-a-preserved
