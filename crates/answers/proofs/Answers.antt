@@ -3,8 +3,8 @@
 --     outcome-..    of anything that is handed back or left
 --     is-..         of items over the start of a lent list
 --     sets-..       of sets as words over the start of a lent list
--- with -refused (the table is refused), -short (there is too little room), -given or -full (there is room), and -accepted (what is answered
--- where nothing is refused). Assumes nothing.
+-- with -numbered (any number above 0 is told), -refused (the table is refused), -short (there is too little room), -given or -full (there is
+-- room), and -accepted (what is answered where nothing is refused). Assumes nothing.
 use mathlib.Core.Path.{◌≡◌, refl, sym, ap, ap₂, ◌∙◌}
 use mathlib.Core.Bool.{Bool, true, false}
 use mathlib.Core.List.{List, []}
@@ -50,10 +50,13 @@ above_zero zero h = absurd (omega arith)
 above_zero (suc d) h = (d, refl)
 
 module _ {A : Type 0} {c : ℕ} (room : Bool) (n : ℕ) (new lent : A) where
-  -- a refusal has count 0, and what was lent is left
-  pub outcome-refused : (e : Refusal) → number_of e ≡ c → told (Err e) lent ≡ outcome c room n new lent
+  -- what is refused has count 0, and what was lent is left
+  pub outcome-numbered : {r : ℕ} → r ≡ c → 0 < r → outcome_of r 0 lent ≡ outcome c room n new lent
   unfolding outcome
-  outcome-refused e given = rw (given, (above_zero c (omega (arith, number-some e))).1)
+  outcome-numbered given above = rw (given, (above_zero c (omega arith)).1)
+
+  pub outcome-refused : (e : Refusal) → number_of e ≡ c → told (Err e) lent ≡ outcome c room n new lent
+  outcome-refused e given = outcome-numbered given (number-some e)
 
   -- too little room is refusal 8
   pub outcome_short : 0 ≡ c → room ≡ false → told (Err Room) lent ≡ outcome c room n new lent
@@ -66,9 +69,12 @@ module _ {A : Type 0} {c : ℕ} (room : Bool) (n : ℕ) (new lent : A) where
   outcome-given none e q w = rw (sym none, e, q, w)
 
 module _ (wanted lent : List ℕ) {c : ℕ} where
-  pub is_refused : (e : Refusal) → number_of e ≡ c → told (Err e) lent ≡ written c wanted lent
+  pub is_numbered : {r : ℕ} → r ≡ c → 0 < r → outcome_of r 0 lent ≡ written c wanted lent
   unfolding written
-  is_refused e given = outcome-refused _ _ _ lent e given
+  is_numbered given above = outcome-numbered _ _ _ lent given above
+
+  pub is_refused : (e : Refusal) → number_of e ≡ c → told (Err e) lent ≡ written c wanted lent
+  is_refused e given = is_numbered given (number-some e)
 
   pub is_accepted : 0 ≡ c → {found : List ℕ} {o : Outcome (List ℕ)} → found ≡ wanted → o ≡ written 0 found lent → o ≡ written c wanted lent
   is_accepted none e w = w ∙ ap₂ (λ (d : ℕ) (l : List ℕ). written d l lent) none e
@@ -83,9 +89,12 @@ module _ (wanted lent : List ℕ) {c : ℕ} where
     is_full h e = outcome-given _ _ _ lent none (le-leb (length wanted) (length lent) (omega arith)) count e
 
 module _ (wanted lent : List ℕ) {c : ℕ} where
-  pub sets-refused : (e : Refusal) → number_of e ≡ c → told (Err e) lent ≡ written_sets c wanted lent
+  pub sets-numbered : {r : ℕ} → r ≡ c → 0 < r → outcome_of r 0 lent ≡ written_sets c wanted lent
   unfolding written_sets
-  sets-refused e given = outcome-refused _ _ _ lent e given
+  sets-numbered given above = outcome-numbered _ _ _ lent given above
+
+  pub sets-refused : (e : Refusal) → number_of e ≡ c → told (Err e) lent ≡ written_sets c wanted lent
+  sets-refused e given = sets-numbered given (number-some e)
 
   pub sets-accepted : 0 ≡ c → {found : List ℕ} {o : Outcome (List ℕ)} → found ≡ wanted → o ≡ written_sets 0 found lent → o ≡ written_sets c wanted lent
   sets-accepted none e w = w ∙ ap₂ (λ (d : ℕ) (l : List ℕ). written_sets d l lent) none e
@@ -105,9 +114,12 @@ module _ (wanted lent : List ℕ) {c : ℕ} where
 
 module _ (n : ℕ) {c : ℕ} where
   -- a refusal of the table check has count 0
-  pub check_refused : (e : Refusal) → number_of e ≡ c → told (Err e) [] ≡ counted c n
+  pub check_numbered : {r : ℕ} → r ≡ c → 0 < r → outcome_of r 0 [] ≡ counted c n
   unfolding counted
-  check_refused e given = outcome-refused _ _ _ _ e given
+  check_numbered given above = outcome-numbered _ _ _ _ given above
+
+  pub check_refused : (e : Refusal) → number_of e ≡ c → told (Err e) [] ≡ counted c n
+  check_refused e given = check_numbered given (number-some e)
 
   -- an accepted table's count is what is counted
   pub check_counted : {k : ℕ} → 0 ≡ c → k ≡ n → told (Ok k) [] ≡ counted c n

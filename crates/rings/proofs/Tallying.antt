@@ -38,7 +38,7 @@ use Rattle.combining.specs.Gibbs.{clear?, rings_from, combined, found_at, found_
 use Rattle.combining.proofs.Turns.{found-few}
 use Rattle.combining.proofs.Exactly.{combined-sum}
 use Rattle.ordering.specs.Sizes.{Countable, Tallied}
-use Rattle.ordering.proofs.Sizing.{occurs-le, Tallying, tallying_none, tallying_more}
+use Rattle.ordering.proofs.Sizing.{occurs-le, Tallying, tallying_none, tallying_more, bound_above}
 use Rattle.choosing.specs.Elimination.{Choosable, Selected}
 use Rattle.rings.specs.Tally.{most_in_one, most_in_all, own_rings, Open, Both, Single, Alone, Separate}
 use Rattle.rings.specs.declared.assembly.Assembly.{Assembly}
@@ -146,7 +146,7 @@ tallied_one : {start : List ℕ} {top : ℕ} (x : ℕ) {z r : ℕ} → Countable
     → Tallied (x ∷ []) start top (set start z (get_or start z 0 + 1)) r
 tallied_one {start} {top} x {z = z} {r} c e h is =
     let none : Tallying (x ∷ []) start top start top 0 = tallying_none top (countable_less c (omega arith)) in
-    let one : Tallying (x ∷ []) start top (set start z (get_or start z 0 + 1)) r 1 = tallying_more none (omega arith) e h is in
+    let one : Tallying (x ∷ []) start top (set start z (get_or start z 0 + 1)) r 1 = tallying_more none (omega arith) e h (bound_above is h) in
     record { long = one.places; told = one.told; higher = one.higher; within = one.low; none = one.none }
 
 module _ {assembly : Assembly} {i : ℕ} (s : Single assembly) (b : bits assembly.members < 2 ^ room) (n : IsNext room (bits assembly.members) 0 i) where
