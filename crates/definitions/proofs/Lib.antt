@@ -1,7 +1,7 @@
 -- The readings of the definitions: that each test says what its sentence says, and that each list is the one that its sentence describes.
 --     Tests       bounded tests and what they say
 --     Lists       what the list-makers of specs/Search.antt list, and how they go on by one
---     Passing     a loop over the members of a set of places, by `next`
+--     Passing     the members of a set of places up to one that `next` gives
 --     Over        a `for` over the members of a set of places
 --     Sorting     lists in an order: what a sorted list is, and that there is one only
 --     Refusals    each refusal is given exactly when its sentence holds
