@@ -9,4 +9,4 @@ use Rattle.basis.proofs.found.Assemblies.push.Goals as goal
 pub invariant_of-self-clause-blank : goal.invariant_of-self-clause-blank
 invariant_of-self-clause-blank c a l =
     let s = c.args.self.now in
-    members-at _ a ∙ ap bits (get_or-set_other s.members s.count a c.args.members no_rings (λ e. absurd (omega arith))) ∙ sym (members-at s.members a) ∙ s.blank a (omega arith)
+    members-at _ a ∙ ap bits (get_or-set_other s.members _ a c.args.members no_rings (λ e. absurd (omega arith))) ∙ sym (members-at s.members a) ∙ s.blank a (omega arith)
